@@ -4,14 +4,14 @@
 usage: tests/cited.py [PAGE...]      without an argument each file that ends in .md
 
 In each page the files and sections that its links lead to; and in its code spans the files, by whole or shortened paths, and the words,
-which must stand somewhere in the repository outside the pages. Blocks of code are not read, nor is docs/PORT.md, which tells of names
-that are gone.
+which must stand somewhere in the repository outside the pages. Blocks of code are not read, nor are docs/PORT.md and docs/DESIGN-PASS.md, which tell of
+names that are gone.
 """
 import os
 import re
 import sys
 
-PASSED_OVER = ("docs/PORT.md",)
+PASSED_OVER = ("docs/PORT.md", "docs/DESIGN-PASS.md")
 # Spans that give a command of the toolchain, what it prints, or a call of another program.
 COMMANDS = re.compile(r"(rt|objdump)\b|rattle-kit-")
 # Names that pages tell of as gone, as those of others, or as examples; and where a file is installed.

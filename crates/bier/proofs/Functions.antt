@@ -1,10 +1,11 @@
 -- How the functions' proofs use the laws: each `return` and each turn of the loop, over variables.
-use Prim.Native.Nat.{ℕ, ◌+◌, ◌-◌, ◌*◌, ◌%◌, ◌^◌, ◌≤◌, ◌<◌}
+use Prim.Native.Nat.{ℕ, ◌+◌, ◌*◌, ◌%◌, ◌^◌, ◌≤◌, ◌<◌}
 use mathlib.Core.Path.{◌≡◌, refl, sym, ap, subst, ◌∙◌}
 use mathlib.Core.Bool.{Bool, true, false}
 use mathlib.Core.List.{List, [], ◌∷◌, ◌++◌}
 use native.Mathlib.Nat.{one-mul}
 use native.Mathlib.Omega.{arith}
+use borrow.Author.Rules.{rules}
 use borrow.Author.Tests.{eqb-false, eq-eqb, ne_eqb}
 use lib.ListN.{length, get_or, drop}
 use lib.Seq.{take_all}
@@ -15,11 +16,12 @@ use Rattle.octets.specs.Outcome.{Outcome, given, refused, and_then, number_of}
 use Rattle.octets.specs.Octets.{low_first, AllOctets, none, one, part}
 use Rattle.octets.specs.Order.{same}
 use Rattle.octets.proofs.Choice.{pick_true, pick-false, pick-passed, both_true, both_left, both_right}
-use Rattle.octets.proofs.Outcome.{and-goes-on, done-given, refused-of, refuses-by, number-goes, number-stops, number-refuses}
 use Rattle.octets.proofs.AllOctets.{octets-of, octets-part}
 use Rattle.octets.proofs.Lists.{length_part, part_then}
-use Rattle.lists.specs.LentLists.{Item, item_field, front_item, after_item, front_items}
-use Rattle.lists.proofs.Going.{Going, going, first-left, none_left, turned}
+use Rattle.octets.proofs.Tests.{flags}
+use Rattle.octets.proofs.Outcome.{and-goes-on, and-stops, done-given, refused-of, refuses-by, number-goes, number-refuses}
+use Rattle.lists.specs.LentLists.{Item, item_field}
+use Rattle.lists.proofs.Along.{turn, turned, ended}
 use Rattle.nlri.specs.Reading.{read_of_type}
 use Rattle.tunnel.specs.declared.bier.BierIdentifier.{BierIdentifier}
 use Rattle.tunnel.specs.Attribute.{fields_in, read_attribute}
@@ -27,7 +29,7 @@ use Rattle.tunnel.specs.Bier.{bier_in}
 use Rattle.tunnel.proofs.Definitions.Attributes.{read-given}
 use Rattle.bier.specs.BitStrings.{is_of_set, with_id, ones_of}
 use Rattle.bier.specs.LeafRoutes.{Leaf, read_leaf, bfr_id_in}
-use Rattle.bier.specs.Inner.{gathered_from, Yields, key_in, KeyWithin, AttributeStands, BierStands, LeafStands, standing_id}
+use Rattle.bier.specs.Inner.{gathered_from, key_in, KeyWithin, AttributeStands, LeafStands, standing_id}
 use Rattle.bier.proofs.Leaves.{leaf-refuses, leaf-stands, id-stands, identifier-long}
 use Rattle.bier.proofs.OfType.{type-refuses}
 
@@ -39,6 +41,8 @@ one_shifted n = shl_exact {a = 1} 1 (n % 8) 8 (omega arith) (omega arith) ∙ on
 pub of-set-some : (flag : Bool) (set_number id : ℕ) → flag ≡ is_of_set set_number id → flag ≡ true → 1 ≤ id
 unfolding is_of_set
 of-set-some flag set_number id e f = let n : id ≡ 0 → ⊥ = eqb-false _ _ (pick-passed _ _ (sym e ∙ f)).0 in omega arith
+
+pub ruleset adding = (flags, of-set-some)
 
 -- the ones of a word are those of its octets, eight of each at the most
 ones_low : {xs : List ℕ} → AllOctets xs → ones (low_first xs) ≡ ones_of xs
@@ -78,17 +82,9 @@ ones-words s a b c d h p q u v =
 pub attribute-least : (a : List ℕ) → AttributeStands a → 5 ≤ length a
 attribute-least a s = (read-given a (fields_in a) s.read).0.size.least
 
-pub bier-least : (a : List ℕ) → BierStands a → 5 ≤ length a
-bier-least a s = attribute-least a (record { read = s.read })
-
 pub identifier-least : (a i : List ℕ) → read_attribute a ≡ given (fields_in a) → get_or a 1 0 ≡ 11 → i ≡ drop 5 a → 3 ≤ length i
 unfolding fields_in
 identifier-least a i e t is = rw is (identifier-long a (fields_in a) e t)
-
--- the sub-domain of an attribute
-pub sub-domain-own : (a i : List ℕ) (b : BierIdentifier) → b ≡ bier_in i → i ≡ drop 5 a → b.sub_domain ≡ (bier_in (fields_in a).identifier).sub_domain
-unfolding fields_in
-sub-domain-own a i b e is = ap (λ (x : BierIdentifier). x.sub_domain) (e ∙ ap bier_in is)
 
 -- the BFR-id of an attribute
 module _ (a : List ℕ) (sub_domain : ℕ) where
@@ -109,6 +105,8 @@ module _ (a : List ℕ) (sub_domain : ℕ) where
     bfr-own own =
         ap (λ (x : BierIdentifier). x.bfr_id) told
         ∙ sym (pick_true _ _ _ (both_true _ _ (eq-eqb _ _ bier) (eq-eqb _ _ (ap (λ (x : BierIdentifier). x.sub_domain) (sym told) ∙ own))))
+
+pub ruleset identified = (rules, attribute-least, identifier-least, bfr-none, bfr-other, bfr-own)
 
 -- a Leaf's key compared
 pub key-same : (leaf nlri key : List ℕ) (flag : Bool) → flag ≡ same key nlri → key ≡ part leaf 2 (2 + get_or leaf 3 0) → flag ≡ same (key_in leaf) nlri
@@ -136,12 +134,12 @@ module _ (nlri : List ℕ) (sub_domain : ℕ) (x : Item) (flag : Bool) (leaf : L
   id-some t a own r q = q ∙ ap (λ (l : List ℕ). bfr_id_in sub_domain (fields_in l)) own ∙ sym (pick_true _ _ _ (sym keyed ∙ t))
 
 -- the Leaf route at a cursor, by its number
-module _ (afi : ℕ) (x : Item) (fault : ℕ) (e : fault ≡ number_of (read_leaf afi x)) where
-  leaf-done : fault ≡ DONE → (leaf : Leaf) × (read_leaf afi x ≡ given leaf)
-  leaf-done d = done-given _ (λ n q. refuses-by _ n (leaf-refuses afi x) q) (sym e ∙ d)
+module _ (afi : ℕ) (x : Item) (e : DONE ≡ number_of (read_leaf afi x)) where
+  leaf-done : (leaf : Leaf) × (read_leaf afi x ≡ given leaf)
+  leaf-done = done-given _ (λ n q. refuses-by _ n (leaf-refuses afi x) q) (sym e)
 
-  pub gather-stands : fault ≡ DONE → LeafStands x
-  gather-stands d = let l = leaf-done d in leaf-stands afi x l.0 l.1
+  pub gather-stands : LeafStands x
+  gather-stands = let l = leaf-done in leaf-stands afi x l.0 l.1
 
 -- its number, by those of its NLRI and of its attribute
 number-after : {A B : Type 0} (o : Outcome A) (f : A → B) → number_of o ≡ number_of (and_then o (λ a. given (f a)))
@@ -157,35 +155,34 @@ module _ (afi : ℕ) (x : Item) (first : ℕ) (leaf : List ℕ) (is : leaf ≡ i
   unfolding read_leaf
   leaf-unnamed h = number-refuses first _ _ named h
 
-  pub leaf-tunnel : first ≡ DONE → (a : List ℕ) → a ≡ item_field 1 x → (n : ℕ) → n ≡ number_of (read_attribute a) → n ≡ number_of (read_leaf afi x)
+module _ (afi : ℕ) (x : Item) (leaf : List ℕ) (is : leaf ≡ item_field 0 x) (e : DONE ≡ number_of (read_of_type 4 afi leaf)) where
+  pub leaf-tunnel : (a : List ℕ) → a ≡ item_field 1 x → (n : ℕ) → n ≡ number_of (read_attribute a) → n ≡ number_of (read_leaf afi x)
   unfolding read_leaf
-  leaf-tunnel d a own n q =
-      let f = done-given _ (λ m r. refuses-by _ m (type-refuses afi (item_field 0 x)) r) (sym named ∙ d) in
+  leaf-tunnel a own n q =
+      let f = done-given _ (λ m r. refuses-by _ m (type-refuses afi (item_field 0 x)) r) (sym (e ∙ ap (λ (l : List ℕ). number_of (read_of_type 4 afi l)) is)) in
       number-goes n _ f.0 _ f.1 (q ∙ ap (λ (l : List ℕ). number_of (read_attribute l)) own ∙ number-after (read_attribute (item_field 1 x)) _)
 
-pub ruleset cursor = (going, key-at, attribute-at, id-none, id-some, leaf-unnamed, leaf-tunnel)
+pub ruleset counting = (rules, key-at, attribute-at, id-none, id-some)
 
 -- the loop over Leaf routes
-module _ (afi : ℕ) (nlri : List ℕ) (sub_domain set_number : ℕ) (start string : List ℕ) {items : List Item} {left : ℕ} {t : List ℕ}
-    (so_far : Going 2 items (gathered_from afi nlri sub_domain set_number start) (gathered_from afi nlri sub_domain set_number string) left t) where
-  pub gather-next : 0 < left → (fault : ℕ) → fault ≡ number_of (read_leaf afi (front_item 2 t)) → fault ≡ DONE → (id : ℕ) → id ≡ standing_id nlri sub_domain (front_item 2 t)
-      → (string' : List ℕ) → string' ≡ with_id set_number string id → (t' : List ℕ) → t' ≡ after_item 2 t → Going 2 items (gathered_from afi nlri sub_domain set_number start) (gathered_from afi nlri sub_domain set_number string') (left - 1) t'
+module _ (afi : ℕ) (nlri : List ℕ) (sub_domain set_number : ℕ) (string : List ℕ) {all : Outcome (List ℕ)} {items : List Item} (so_far : all ≡ gathered_from afi nlri sub_domain set_number string items) where
+  module _ {x : Item} {rest : List Item} (here : items ≡ x ∷ rest) where
+    pub gather-next : DONE ≡ number_of (read_leaf afi x) → (id : ℕ) → id ≡ standing_id nlri sub_domain x → (string' : List ℕ) → string' ≡ with_id set_number string id → all ≡ gathered_from afi nlri sub_domain set_number string' rest
+    unfolding gathered_from
+    gather-next e id is string' w =
+        let l = leaf-done afi x e in
+        turned (gathered_from afi nlri sub_domain set_number string) so_far here _
+        (sym (and-goes-on _ _ l.0 _ l.1 (ap (λ (s : List ℕ). gathered_from afi nlri sub_domain set_number s rest) (w ∙ ap (with_id set_number string) (is ∙ sym (id-stands afi x l.0 l.1 nlri sub_domain))))))
+
+    pub gather-stop : (n : ℕ) → n ≡ number_of (read_leaf afi x) → (n ≡ DONE → ⊥) → refused n ≡ all
+    unfolding gathered_from
+    gather-stop n e d = and-stops _ _ _ (refused-of _ n e d) ∙ sym (turn (gathered_from afi nlri sub_domain set_number string) so_far here)
+
+  pub gather-last : items ≡ [] → given string ≡ all
   unfolding gathered_from
-  gather-next more fault e d id is string' w t' a =
-      let l = leaf-done afi (front_item 2 t) fault e d in
-      turned so_far _ t' more a
-      (sym (and-goes-on _ _ l.0 _ l.1 (ap (λ (s : List ℕ). gathered_from afi nlri sub_domain set_number s (front_items 2 (left - 1) (after_item 2 t))) (w ∙ ap (with_id set_number string) (is ∙ sym (id-stands afi (front_item 2 t) l.0 l.1 nlri sub_domain))))))
+  gather-last end = sym (ended (gathered_from afi nlri sub_domain set_number string) so_far end)
 
-  pub gather-stop : 0 < left → (fault : ℕ) → fault ≡ number_of (read_leaf afi (front_item 2 t)) → (fault ≡ DONE → ⊥) → Yields (gathered_from afi nlri sub_domain set_number start items) fault string
-  unfolding gathered_from
-  gather-stop more fault e d =
-      record {
-        is = number-stops fault _ _ (refused-of _ fault e d) ∙ ap number_of (sym (first-left so_far more));
-        done = λ z. absurd (d z);
-      }
-
-  pub gather-last : left ≤ 0 → Yields (gathered_from afi nlri sub_domain set_number start items) DONE string
-  unfolding gathered_from number_of
-  gather-last end = let last = none_left so_far end in record { is = ap number_of (sym last); done = λ z. last }
-
-pub ruleset gathering = (going, gather-stands, gather-next, gather-stop, gather-last)
+-- where there is no id
+pub with-none : (set_number : ℕ) (string : List ℕ) → string ≡ with_id set_number string 0
+unfolding with_id is_of_set
+with-none set_number string = sym (pick-false _ _ _ (pick_true _ _ _ refl))

@@ -9,13 +9,11 @@ use octets::wide;
 pub(crate) const OCTETS: usize = 32;
 
 // A BFR-id has its bit in the string of a set.
+#[tactic(auto, using(octets::proofs::Tests::tests), unfolding(crate::specs::BitStrings::is_of_set, crate::specs::BitStrings::set_of))]
 fn is_of_set(set: u8, id: u32) -> bool
     ensures { result ≡ is_of_set set id }
 {
-    if id == 0 {
-        return false;
-    }
-    (id - 1) / 256 == set as u32
+    id != 0 && (id - 1) / 256 == u32::from(set)
 }
 
 // Sets the bit at a position: position 1 is the lowest bit of the last octet.
@@ -24,10 +22,11 @@ fn set_bit(string: &mut [u8; 32], position: usize)
     ensures { string.new ≡ with_bit string.old position }
 {
     let at = OCTETS - 1 - (position - 1) / 8;
-    string[at] = string[at] | (1u8 << ((position - 1) % 8));
+    string[at] |= 1u8 << ((position - 1) % 8);
 }
 
 // Sets the bit of a BFR-id that is of the set.
+#[tactic(auto, using(crate::proofs::Functions::adding), unfolding(crate::specs::BitStrings::with_id, crate::specs::BitStrings::position_of))]
 pub(crate) fn add(string: &mut [u8; 32], set: u8, id: u32)
     ensures { string.new ≡ with_id set string.old id }
 {

@@ -2,16 +2,16 @@
 // lends, and how many egress routers are in it.
 #![tactic(auto)]
 
-ghost use Rattle.std.specs.Prelude.{◌≡◌, true};
-ghost use Rattle.octets.specs.Outcome.{and_then, number_of};
+ghost use Rattle.std.specs.Prelude.{◌≡◌};
 ghost use Rattle.octets.specs.Outputs.{Leaves};
-ghost use Rattle.lists.specs.LentLists.{whole_list, list_items};
-ghost use Rattle.octets.specs.Order.{zeros};
-ghost use Rattle.bier.specs.BierString.{read_bier_route, with_room, refused_egress, egress_by, egress_of};
-ghost use Rattle.bier.specs.Inner.{gathered_from, leaf_list_fault};
+ghost use Rattle.octets.specs.Refusals.{outcome_in};
+ghost use Rattle.bier.specs.BierString.{read_bier_route, with_room, egress_by, egress_of};
+ghost use Rattle.bier.specs.Inner.{leaf_items, egress_in};
 
-use octets::number::{DONE, LONG, SHORT, SPACE, TUNNEL};
+use lists::item::Items;
+use octets::number::DONE;
 use octets::parts;
+use octets::refusal::Refusal;
 use places::judge;
 use tunnel::TunnelType;
 
@@ -31,67 +31,74 @@ pub struct Egress {
     pub routers: u32,
 }
 
-impl Egress {
-    // The answer of a refusal.
-    fn refused(number: u32) -> Egress
-        ensures { result ≡ refused_egress number }
-    {
-        Egress { number, routers: 0 }
+impl From<Result<u32, Refusal>> for Egress {
+    ghost from_gives = { λ done egress. egress ≡ egress_in done };
+
+    fn from(done: Result<u32, Refusal>) -> Egress {
+        match done {
+            Ok(routers) => Egress {
+                number: DONE,
+                routers,
+            },
+            Err(refusal) => Egress {
+                number: refusal.number(),
+                routers: 0,
+            },
+        }
     }
 }
 
-// The route's own install numbers, then TUNNEL where its tunnel is not BIER.
-fn route_fault(afi: u16, nlri: &[u8], attribute: &[u8]) -> u32
-    ensures { result ≡ number_of (read_bier_route afi nlri.now attribute.now) }
+// The sub-domain of a route: its own install numbers, then TUNNEL where its tunnel is not BIER.
+fn sub_domain_of(afi: u16, nlri: &[u8], attribute: &[u8]) -> Result<u32, Refusal>
+    ensures { outcome_in result ≡ read_bier_route afi nlri.now attribute.now }
 {
-    let fault = judge::route_fault(afi, nlri, attribute);
-    if fault != DONE {
-        return fault;
+    judge::check_route(afi, nlri, attribute)?;
+    if attribute[1] != TunnelType::Bier as u8 {
+        return Err(Refusal::Tunnel);
     }
-    if attribute[1] != TunnelType::BIER {
-        return TUNNEL;
-    }
-    DONE
+    Ok(tunnel::bier_in(parts::after(attribute, tunnel::HEADER)).sub_domain)
 }
 
-// LONG over 1,024 Leaf routes, SHORT for a list that ends before them.
-fn list_fault(leaves: &[u8]) -> u32
-    ensures { result ≡ leaf_list_fault leaves.now }
+// The Leaf routes: LONG over 1,024 of them, SHORT for a list that ends before them.
+#[tactic(auto, using(crate::proofs::Calls::listing))]
+fn leaves_in(list: &[u8]) -> Result<Items<'_, FIELDS>, Refusal>
+    ensures { outcome_in result ≡ leaf_items list.now }
 {
-    if MOST_LEAVES < lists::count_of(leaves) {
-        return LONG;
+    if MOST_LEAVES < lists::count_of(list) {
+        return Err(Refusal::Long);
     }
-    if !lists::is_whole(leaves, FIELDS) {
-        return SHORT;
+    if !lists::is_whole(list, FIELDS) {
+        return Err(Refusal::Short);
     }
-    DONE
+    Ok(lists::items_of(list))
 }
 
-// A string written at the front of an output that has room for it.
-fn write(string: &[u8; 32], output: &mut [u8]) -> Egress
-    ensures { Leaves (egress_by (with_room string.now output.old) output.old) result output.new }
+// Writes a string at the front of an output that has room for it: how many egress routers are in it.
+#[tactic(auto, using(crate::proofs::Calls::writing))]
+fn write(string: &[u8; 32], output: &mut [u8]) -> Result<u32, Refusal>
+    ensures { Leaves (egress_by (with_room string.now output.old) output.old) (egress_in result) output.new }
 {
     if output.len() < bits::OCTETS {
-        return Egress::refused(SPACE);
+        return Err(Refusal::Space);
     }
-    let routers = bits::ones(string);
     parts::place(string, output, 0);
-    Egress {
-        number: DONE,
-        routers,
-    }
+    Ok(bits::ones(string))
 }
 
-// The string by Leaf routes in a whole list, each judged in its turn, for a route with this NLRI in this sub-domain.
-fn send(afi: u16, nlri: &[u8], sub_domain: u32, set: u8, leaves: &[u8], output: &mut [u8]) -> Egress
-    requires { whole_list 2 leaves.now ≡ true }
-    ensures { Leaves (egress_by (and_then (gathered_from afi nlri.now sub_domain set (zeros 32) (list_items 2 leaves.now)) (λ string. with_room string output.old)) output.old) result output.new }
+// Writes the bit string of a set: how many egress routers are in it.
+fn write_string(
+    afi: u16,
+    nlri: &[u8],
+    attribute: &[u8],
+    set: u8,
+    leaves: &[u8],
+    output: &mut [u8],
+) -> Result<u32, Refusal>
+    ensures { Leaves (egress_of afi nlri.now attribute.now set leaves.now output.old) (egress_in result) output.new }
 {
-    let mut string = [0u8; 32];
-    let fault = leaf::gather(afi, nlri, sub_domain, set, leaves, &mut string);
-    if fault != DONE {
-        return Egress::refused(fault);
-    }
+    let sub_domain = sub_domain_of(afi, nlri, attribute)?;
+    let leaves = leaves_in(leaves)?;
+    let string = leaf::gather(afi, nlri, sub_domain, set, leaves)?;
     write(&string, output)
 }
 
@@ -106,14 +113,5 @@ pub fn bier_string(
 ) -> Egress
     ensures { Leaves (egress_of afi nlri.now attribute.now set leaves.now output.old) result output.new }
 {
-    let fault = route_fault(afi, nlri, attribute);
-    if fault != DONE {
-        return Egress::refused(fault);
-    }
-    let fault = list_fault(leaves);
-    if fault != DONE {
-        return Egress::refused(fault);
-    }
-    let sub_domain = leaf::sub_domain_of(attribute);
-    send(afi, nlri, sub_domain, set, leaves, output)
+    Egress::from(write_string(afi, nlri, attribute, set, leaves, output))
 }

@@ -5,42 +5,42 @@ ghost use Rattle.octets.specs.Octets.{part, placed};
 ghost use Rattle.octets.specs.Order.{zeros};
 ghost use Rattle.routes.specs.Route.{route};
 ghost use Rattle.routes.specs.Place.{place_of};
-ghost use Rattle.changes.specs.Changing.{opened, closed, replaced_at, opened_at, added_at, taken_at, remarked};
+ghost use Rattle.changes.specs.Changing.{opened, closed, replaced_at, opened_at, added_at, taken_at, mark_number, remarked};
 
 use places::geometry::{HEADER, MARK, PLACE};
 use places::{header, place};
+
+// The mark of a route, as its place's last octet has it.
+#[derive(Clone, Copy, Debug, PartialEq, Eq)]
+pub enum RouteMark {
+    Fresh = 0,
+    Stale = 1,
+}
+
+impl RouteMark {
+    // The mark's octet in a place.
+    pub fn octet(self) -> u8
+        ensures { result ≡ mark_number self }
+    {
+        self as u8
+    }
+}
 
 // Every place becomes free; the header's octets stay.
 pub fn clear_places(table: &mut [u8])
     requires { 8 ≤ length table.old }
     ensures { table.new ≡ take 8 table.old ++ zeros (length table.old - 8) }
 {
-    octets::parts::clear(&mut table[HEADER..]);
+    table[HEADER..].fill(0);
 }
 
-// Moves all octets up by one place, from the last down; the last place's octets fall off, and the first place's stay.
+// Moves all octets up by one place; the last place's octets fall off, and the first place's stay.
 fn move_up(tail: &mut [u8])
     requires { 128 ≤ length tail.old }
     ensures { tail.new ≡ take 128 tail.old ++ take (length tail.old - 128) tail.old }
 {
-    let mut at = tail.len() - PLACE;
-    while 0 < at {
-        at -= 1;
-        tail[at + PLACE] = tail[at];
-    }
-}
-
-// Moves all octets down by so many; as many fall off at the front, and as many stay at the end.
-fn move_down(tail: &mut [u8], by: usize)
-    requires { by ≤ length tail.old }
-    ensures { tail.new ≡ drop by tail.old ++ drop (length tail.old - by) tail.old }
-{
-    let moved = tail.len() - by;
-    let mut at = 0;
-    while at < moved {
-        tail[at] = tail[at + by];
-        at += 1;
-    }
+    let last = tail.len() - PLACE;
+    tail.copy_within(..last, PLACE);
 }
 
 // Moves all octets down by one place, with zeros in the last place.
@@ -48,9 +48,9 @@ fn close_gap(tail: &mut [u8])
     requires { 128 ≤ length tail.old }
     ensures { tail.new ≡ drop 128 tail.old ++ zeros 128 }
 {
-    move_down(tail, PLACE);
+    tail.copy_within(PLACE.., 0);
     let last = tail.len() - PLACE;
-    octets::parts::clear(&mut tail[last..]);
+    tail[last..].fill(0);
 }
 
 // The place that starts at `at` written over the one that starts at `to`, which is the same or comes before it.
@@ -61,15 +61,7 @@ pub fn keep(table: &mut [u8], at: usize, to: usize)
     if to == at {
         return;
     }
-    move_down(&mut table[to..at + PLACE], at - to);
-}
-
-// The mark of the place that starts at `at`.
-fn set_mark(table: &mut [u8], at: usize, mark: u8)
-    requires { at + 128 ≤ length table.old }
-    ensures { table.new ≡ set table.old (at + 127) mark }
-{
-    table[at + MARK] = mark;
+    table.copy_within(at..at + PLACE, to);
 }
 
 // The place that starts at `at` kept at `to`, with this mark.
@@ -78,15 +70,7 @@ pub fn keep_marked(table: &mut [u8], at: usize, to: usize, mark: u8)
     ensures { table.new ≡ placed to (remarked mark (part table.old at 128)) table.old }
 {
     keep(table, at, to);
-    set_mark(table, to, mark);
-}
-
-// The octets from `to` to `end` become 0.
-fn clear_part(table: &mut [u8], to: usize, end: usize)
-    requires { (to ≤ end) × (end ≤ length table.old) }
-    ensures { table.new ≡ take to table.old ++ (zeros (end - to) ++ drop end table.old) }
-{
-    octets::parts::clear(&mut table[to..end]);
+    table[to + MARK] = mark;
 }
 
 // The places that end at `to` are those taken; those behind them become free.
@@ -95,7 +79,7 @@ pub fn close_from(table: &mut [u8], afi: u16, to: usize, count: usize) -> usize
     ensures value { result ≡ (to - 8) / 128 }
     ensures table_after { table.new ≡ header_of afi result ++ drop 8 (take to table.old ++ (zeros (8 + 128 * count - to) ++ drop (8 + 128 * count) table.old)) }
 {
-    clear_part(table, to, HEADER + PLACE * count);
+    table[to..HEADER + PLACE * count].fill(0);
     let kept = (to - HEADER) / PLACE;
     header::write_header(afi, kept, table);
     kept

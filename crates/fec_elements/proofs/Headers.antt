@@ -8,7 +8,7 @@ use native.Mathlib.Omega.{arith}
 use lib.Dec.{ltb, eqb}
 use lib.ListN.{length, get_or, drop, length-drop}
 use borrow.Author.Tests.{ltb-true, ltb-false, leb-true, eqb-true, eqb-false, eq-eqb, lt-ltb, le-ltb}
-use Rattle.octets.specs.Choice.{pick, both, either}
+use Rattle.octets.specs.Choice.{pick, both}
 use Rattle.octets.specs.Numbers.{DONE, IDENT}
 use Rattle.octets.specs.Octets.{part, number_in}
 use Rattle.octets.proofs.Choice.{tested, opposite, is_false, pick_true, pick-false, pick-case, picked, both_true, both-held}
@@ -214,16 +214,3 @@ header-passes p s e =
 
 pub passes-header : (p : Standing) (s : List ℕ) → FecType (get_or s 0 0) → Passes p s → header_fault p s ≡ DONE
 passes-header p s t q = past-type p s (record { there = omega (arith, q.tests.least); right = t }) ∙ passes-family p s q
-
--- the tests that the code makes
-pub takes-body : (p : Standing) (afi n : ℕ) → p ≡ InBody afi → eqb n afi ≡ takes_family p n
-unfolding takes_family
-takes-body p afi n e = rw e
-
-pub takes-lent : (p : Standing) (afi n : ℕ) → p ≡ Lent afi → eqb n afi ≡ takes_family p n
-unfolding takes_family
-takes-lent p afi n e = rw e
-
-pub suits-ipv4 : (address_family size : ℕ) → address_family ≡ 1 → eqb size 4 ≡ family_suits address_family size
-unfolding family_suits both either
-suits-ipv4 address_family size e = rw e (tested (eqb size 4) (λ t. rw t) (λ t. rw t))

@@ -5,13 +5,12 @@ use mathlib.Core.Logic.{⊎_elim}
 use mathlib.Core.Bool.{true, false}
 use mathlib.Core.List.{List, [], ◌∷◌, ◌++◌}
 use native.Mathlib.Omega.{arith}
-use lib.Dec.{eqb}
 use lib.ListN.{length, get_or, drop, length-append, length-drop}
 use lib.Seq.{drop-cons, drop-drop, drop-append_seam}
-use borrow.Author.Tests.{leb-true, eqb-true, eq-eqb, le-leb}
+use borrow.Author.Tests.{leb-true, eqb-true, eq-eqb, ne_eqb, le-leb}
 use Rattle.octets.specs.Choice.{pick, either}
 use Rattle.octets.specs.Octets.{AllOctets, part, number_in, big_endian}
-use Rattle.octets.proofs.Choice.{tested, both_true, both-held, either_true}
+use Rattle.octets.proofs.Choice.{both_true, both-held, either_true}
 use Rattle.octets.proofs.Lists.{length_part, drop-part}
 use Rattle.octets.proofs.AllOctets.{octets-part}
 use Rattle.octets.proofs.NetworkOrder.{length-big_endian, number-of-big-endian, part-number}
@@ -29,7 +28,20 @@ unfolding opens either
 opens-computed seven = refl
 opens-computed eight = refl
 
-pub opens-none : (o : List ℕ) → length o ≡ 0 → false ≡ opens o
+-- by its first octet
+pub opens-recursive : (o : List ℕ) → get_or o 0 0 ≡ 7 → (opens o ≡ true) × (3 ≡ held_start o)
+unfolding opens either held_start pick
+opens-recursive o e = rw e (refl, refl)
+
+pub opens-vpn_recursive : (o : List ℕ) → get_or o 0 0 ≡ 8 → (opens o ≡ true) × (11 ≡ held_start o)
+unfolding opens either held_start pick
+opens-vpn_recursive o e = rw e (refl, refl)
+
+pub opens-else : (o : List ℕ) → (get_or o 0 0 ≡ 7 → ⊥) → (get_or o 0 0 ≡ 8 → ⊥) → opens o ≡ false
+unfolding opens either
+opens-else o a b = rw (ne_eqb _ 7 a, ne_eqb _ 8 b)
+
+pub opens-none : (o : List ℕ) → length o ≡ 0 → opens o ≡ false
 unfolding opens either
 opens-none [] h = refl
 opens-none (x ∷ o) h = absurd (omega arith)
@@ -107,19 +119,3 @@ holds-encode {k} fec w h =
     let l : length (encode_holder k fec) ≡ length (before_held k ++ fec) + 3 = length-opaque (holder_type k) (before_held k ++ fec) in
     both_true _ _ (le-leb (held_start (encode_holder k fec)) (length (encode_holder k fec)) (omega (arith, start-encode fec w, length-append (before_held k) fec)))
     (rw (number-opaque (holder_type k) (before_held k ++ fec) (omega arith)) (eq-eqb _ _ (sym l)))
-
--- what an opaque value that holds a FEC has, as the code cuts it
-pub opens-some : (o : List ℕ) → opens o ≡ true → 1 ≤ length o
-opens-some o h = go (opens_of o h)
-  where
-    go : {o : List ℕ} → Opens o → 1 ≤ length o
-    go seven = omega arith
-    go eight = omega arith
-
-pub start-least : (o : List ℕ) (n : ℕ) → n ≡ held_start o → 3 ≤ n
-unfolding held_start pick
-start-least o n e = tested (eqb (get_or o 0 0) 7) (λ t. let z : n ≡ 3 = e ∙ rw t in omega arith) (λ t. let z : n ≡ 11 = e ∙ rw t in omega arith)
-
-pub start-room : (o : List ℕ) → holds_fec o ≡ true → held_start o ≤ length o
-unfolding holds_fec
-start-room o h = leb-true (held_start o) (length o) (both-held _ _ h).0

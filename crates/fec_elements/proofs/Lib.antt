@@ -1,5 +1,6 @@
 -- Laws of the definitions, how the functions' proofs use them, and the theorems.
 pub mod Fecs
+pub mod FecTypes
 pub mod Headers
 pub mod Wholes
 pub mod Holders

@@ -1,21 +1,24 @@
-// A FEC up to its opaque value, judged field by field from left to right: the number of the first fault, or DONE.
+// A FEC up to its opaque value, judged field by field from left to right.
+#![tactic(auto, using(octets::proofs::Tests::flags), unfolding(crate::specs::Reading::runs_out, crate::specs::Reading::must_fill, crate::specs::Reading::takes_family, crate::specs::Reading::family_suits, crate::specs::Reading::length_fault, crate::specs::Reading::root_fault, crate::specs::Reading::family_fault, crate::specs::Reading::header_fault))]
+
 ghost use Rattle.std.specs.Prelude.{◌≡◌, true, ◌≤◌, ◌<◌, length};
 ghost use Rattle.fec_elements.specs.Reading.{runs_out, must_fill, takes_family, is_fec_type, family_suits, length_fault, root_fault, family_fault, header_fault};
 ghost use Rattle.octets.specs.Numbers.{DONE};
+ghost use Rattle.octets.specs.Refusals.{refusal_number, result_number};
 ghost use Rattle.fec_elements.specs.Inner.{EndsWell};
 
-use crate::shape::{FecType, OpaqueStart, Root};
+use crate::shape::FecType;
 use crate::{Standing, shape};
-use octets::number::{DONE, IDENT, LENGTH};
+use octets::refusal::Refusal;
 
-// The number where the octets end inside a FEC.
-fn runs_out(standing: Standing) -> u32
-    ensures { result ≡ runs_out standing }
+// Why a FEC inside which the octets end is refused.
+fn runs_out(standing: Standing) -> Refusal
+    ensures { refusal_number result ≡ runs_out standing }
 {
     match standing {
-        Standing::InBody(_) => LENGTH,
-        Standing::Lent(_) => IDENT,
-        Standing::Filling => IDENT,
+        Standing::InBody(_) => Refusal::Length,
+        Standing::Lent(_) => Refusal::Ident,
+        Standing::Filling => Refusal::Ident,
     }
 }
 
@@ -42,10 +45,10 @@ fn takes_family(standing: Standing, address_family: u32) -> bool
 }
 
 // A type of mLDP FECs.
-fn is_fec_type(fec_type: u8) -> bool
-    ensures { result ≡ is_fec_type fec_type }
+fn is_fec_type(octet: u8) -> bool
+    ensures { result ≡ is_fec_type octet }
 {
-    FecType::P2MP <= fec_type && fec_type <= FecType::MP2MP_DOWN
+    FecType::try_from(octet).is_ok()
 }
 
 // An address length that suits the address family (RFC 4760).
@@ -62,60 +65,61 @@ fn family_suits(address_family: u32, size: u8) -> bool
 }
 
 // Root, opaque length, and as many octets as that says.
-fn length_fault(s: &[u8], standing: Standing) -> u32
+fn check_length(s: &[u8], standing: Standing) -> Result<(), Refusal>
     requires { 4 ≤ length s.now }
-    ensures { result ≡ length_fault standing s.now }
+    ensures { result_number result ≡ length_fault standing s.now }
 {
     if s.len() < shape::opaque_start(s) {
-        return runs_out(standing);
+        return Err(runs_out(standing));
     }
     let end = shape::fec_size(s);
     if s.len() < end {
-        return runs_out(standing);
+        return Err(runs_out(standing));
     }
     if end < s.len() && must_fill(standing) {
-        return IDENT;
+        return Err(Refusal::Ident);
     }
-    DONE
+    Ok(())
 }
 
 // Address length, and what follows it.
-fn root_fault(s: &[u8], standing: Standing) -> u32
-    ensures { result ≡ root_fault standing s.now }
+fn check_root(s: &[u8], standing: Standing) -> Result<(), Refusal>
+    ensures { result_number result ≡ root_fault standing s.now }
 {
     if s.len() < shape::FIXED {
-        return runs_out(standing);
+        return Err(runs_out(standing));
     }
     if family_suits(octets::wide::two(s, 1), s[3]) {
-        return length_fault(s, standing);
+        return check_length(s, standing);
     }
-    IDENT
+    Err(Refusal::Ident)
 }
 
 // Address family, and what follows it.
-fn family_fault(s: &[u8], standing: Standing) -> u32
-    ensures { result ≡ family_fault standing s.now }
+fn check_family(s: &[u8], standing: Standing) -> Result<(), Refusal>
+    ensures { result_number result ≡ family_fault standing s.now }
 {
     if s.len() < 3 {
-        return runs_out(standing);
+        return Err(runs_out(standing));
     }
     if takes_family(standing, octets::wide::two(s, 1)) {
-        return root_fault(s, standing);
+        return check_root(s, standing);
     }
-    IDENT
+    Err(Refusal::Ident)
 }
 
-// Type, and what follows it.
-fn type_fault(s: &[u8], standing: Standing) -> u32
-    ensures { result ≡ header_fault standing s.now }
+// Type, and what follows it; after the quick test few octets come here that are good.
+#[cold]
+fn check_type(s: &[u8], standing: Standing) -> Result<(), Refusal>
+    ensures { result_number result ≡ header_fault standing s.now }
 {
     if s.len() < 1 {
-        return runs_out(standing);
+        return Err(runs_out(standing));
     }
     if is_fec_type(s[0]) {
-        return family_fault(s, standing);
+        return check_family(s, standing);
     }
-    IDENT
+    Err(Refusal::Ident)
 }
 
 // A FEC whose opaque value starts at `start` ends with the octets, by the opaque length before that, or ends sooner where something may follow.
@@ -136,43 +140,27 @@ fn ends_well(s: &[u8], start: usize, standing: Standing) -> bool
     !must_fill(standing)
 }
 
-// A FEC with a root of this family may stand so, and ends well.
-fn stands_well(s: &[u8], address_family: u32, start: usize, standing: Standing) -> bool
-    requires { (2 ≤ start) × (start < 256) }
-    ensures { result ≡ true → (takes_family standing address_family ≡ true) × EndsWell standing start s.now }
-{
-    if !takes_family(standing, address_family) {
-        return false;
-    }
-    ends_well(s, start, standing)
-}
-
 // A test before the judge: address family and address length are one load. That it fails says nothing.
 fn is_surely_good(s: &[u8], standing: Standing) -> bool
     ensures { result ≡ true → header_fault standing s.now ≡ DONE }
 {
-    if s.len() < OpaqueStart::IPV4 {
+    if s.len() < shape::LEAST || !is_fec_type(s[0]) {
         return false;
     }
-    if !is_fec_type(s[0]) {
-        return false;
+    match shape::root_family(s) {
+        Some(family) => {
+            takes_family(standing, family as u32) && ends_well(s, family.opaque_start(), standing)
+        }
+        None => false,
     }
-    let root = octets::wide::four_low_first(s, 0) / 256;
-    if root == Root::IPV4 {
-        return stands_well(s, 1, OpaqueStart::IPV4, standing);
-    }
-    if root == Root::IPV6 {
-        return stands_well(s, 2, OpaqueStart::IPV6, standing);
-    }
-    false
 }
 
-// The number of the first fault of a FEC up to its opaque value.
-pub(crate) fn fault(s: &[u8], standing: Standing) -> u32
-    ensures { result ≡ header_fault standing s.now }
+// The first fault of a FEC up to its opaque value.
+pub(crate) fn check(s: &[u8], standing: Standing) -> Result<(), Refusal>
+    ensures { result_number result ≡ header_fault standing s.now }
 {
     if is_surely_good(s, standing) {
-        return DONE;
+        return Ok(());
     }
-    type_fault(s, standing)
+    check_type(s, standing)
 }

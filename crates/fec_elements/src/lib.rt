@@ -4,7 +4,10 @@
 
 ghost use Rattle.std.specs.Prelude.{◌≡◌};
 ghost use Rattle.octets.specs.Outcome.{number_of};
+ghost use Rattle.octets.specs.Refusals.{result_number};
 ghost use Rattle.fec_elements.specs.Reading.{read_fec};
+
+use octets::refusal::Refusal;
 
 mod header;
 mod nested;
@@ -23,8 +26,8 @@ pub enum Standing {
 
 // The number of the first fault from left to right of a FEC at the front of octets and of those that it holds, LENGTH, IDENT or DEEP,
 // or DONE.
-pub fn fault(standing: Standing, octets: &[u8]) -> u32
-    ensures { result ≡ number_of (read_fec standing octets.now) }
+pub fn check(standing: Standing, octets: &[u8]) -> Result<(), Refusal>
+    ensures { result_number result ≡ number_of (read_fec standing octets.now) }
 {
-    nested::fec_fault(octets, standing, nested::MOST_DEEP)
+    nested::check_fec(octets, standing, nested::MOST_DEEP)
 }

@@ -1,33 +1,39 @@
 // FECs that hold one another: the FEC reader calls the opaque-value reader and that calls back, with the remaining depth falling from four
 // (document 01, "Language forms by place").
-ghost use Rattle.std.specs.Prelude.{◌≡◌, ◌≤◌, length, drop};
-ghost use Rattle.fec_elements.specs.Reading.{fec_size, fec_in, opens, held_start, holds_fec, fec_fault, opaque_fault};
+#![tactic(auto, using(octets::proofs::Tests::flags), unfolding(crate::specs::Reading::opens, crate::specs::Reading::held_start, crate::specs::Reading::holds_fec, crate::specs::Reading::fec_in, crate::specs::Reading::fec_size, crate::specs::Reading::opaque_start))]
+
+ghost use Rattle.std.specs.Prelude.{◌≡◌, ◌≤◌, length};
+ghost use Rattle.octets.specs.Refusals.{result_number};
+ghost use Rattle.fec_elements.specs.Reading.{fec_size, fec_in, held_start, fec_fault, opaque_fault};
+ghost use Rattle.fec_elements.specs.Inner.{start_in, IsHolder, Holds};
 
 use crate::{Standing, header, shape};
-use octets::number::{DEEP, DONE, IDENT};
+use octets::refusal::Refusal;
 
 // So many FECs may stand in one another, the outermost counted.
 pub(crate) const MOST_DEEP: u32 = 4;
 
-// The opaque values that hold a FEC (RFC 6512, section 3): their types, and where the FEC starts, after type 1, length 2 and, in the second,
-// a route distinguisher of 8.
+// The opaque values that hold a FEC (RFC 6512, section 3).
 #[derive(Clone, Copy)]
-struct Recursive {}
-
-impl Recursive {
-    const TYPE: u8 = 7;
-
-    const START: usize = 3;
+enum Holder {
+    Recursive = 7,
+    VpnRecursive = 8,
 }
 
-#[derive(Clone, Copy)]
-struct VpnRecursive {}
-
-impl VpnRecursive {
-    const TYPE: u8 = 8;
-
-    const START: usize = 11;
+impl Holder {
+    // Where the FEC starts: after type 1, length 2 and, in the second, a route distinguisher of 8.
+    fn held_start(self) -> usize
+        ensures { result ≡ start_in self }
+    {
+        match self {
+            Holder::Recursive => HOLDER_FIXED,
+            Holder::VpnRecursive => HOLDER_FIXED + 8,
+        }
+    }
 }
+
+// The type and the length of an opaque value.
+const HOLDER_FIXED: usize = 3;
 
 // The opaque value of a FEC whose header has no fault.
 fn opaque_of(s: &[u8]) -> &[u8]
@@ -38,72 +44,56 @@ fn opaque_of(s: &[u8]) -> &[u8]
     octets::parts::between(s, start, shape::fec_size(s) - start)
 }
 
-// An opaque value opens as one that holds a FEC.
-fn opens(s: &[u8]) -> bool
-    ensures { result ≡ opens s.now }
+// What an opaque value opens as, by its first octet, where it may hold a FEC.
+fn opens_as(s: &[u8]) -> Option<Holder>
+    ensures { IsHolder s.now result }
 {
-    if s.len() == 0 {
-        return false;
+    if s.is_empty() {
+        return None;
     }
-    s[0] == Recursive::TYPE || s[0] == VpnRecursive::TYPE
-}
-
-// Where its FEC starts.
-fn held_start(s: &[u8]) -> usize
-    requires { 1 ≤ length s.now }
-    ensures { result ≡ held_start s.now }
-{
-    if s[0] == Recursive::TYPE {
-        return Recursive::START;
+    match s[0] {
+        7 => Some(Holder::Recursive),
+        8 => Some(Holder::VpnRecursive),
+        _ => None,
     }
-    VpnRecursive::START
 }
 
-// All that stands before the FEC is there, and the length ends where the opaque value ends.
-fn holds(s: &[u8]) -> bool
-    requires { 1 ≤ length s.now }
-    ensures { result ≡ holds_fec s.now }
+// The FEC that an opaque value holds, where all that stands before it is there and the length ends where the opaque value ends.
+fn held(s: &[u8], holder: Holder) -> Option<&[u8]>
+    requires { start_in holder ≡ held_start s.now }
+    ensures { Holds s.now result }
 {
-    if s.len() < held_start(s) {
-        return false;
+    let start = holder.held_start();
+    if s.len() < start || octets::wide::two(s, 1) as usize + HOLDER_FIXED != s.len() {
+        return None;
     }
-    octets::wide::two(s, 1) as usize + Recursive::START == s.len()
+    Some(octets::parts::after(s, start))
 }
 
-// The FEC that an opaque value holds.
-fn held(s: &[u8]) -> &[u8]
-    requires { (1 ≤ length s.now) × (held_start s.now ≤ length s.now) }
-    ensures { result.now ≡ drop (held_start s.now) s.now }
-{
-    octets::parts::after(s, held_start(s))
-}
-
-// The number of the first fault of a FEC that may be `depth` deep, or DONE.
-#[cycle(fec_fault_opaque_fault)]
-pub(crate) fn fec_fault(s: &[u8], standing: Standing, depth: u32) -> u32
+// The first fault of a FEC that may be `depth` deep. Inlined, so that only the outermost is judged by its standing.
+#[cycle(checks)]
+#[inline(always)]
+pub(crate) fn check_fec(s: &[u8], standing: Standing, depth: u32) -> Result<(), Refusal>
     requires { 1 ≤ depth }
-    ensures { result ≡ fec_fault depth standing s.now }
+    ensures { result_number result ≡ fec_fault depth standing s.now }
 {
-    let number = header::fault(s, standing);
-    if number != DONE {
-        return number;
-    }
-    opaque_fault(opaque_of(s), depth - 1)
+    header::check(s, standing)?;
+    check_opaque(opaque_of(s), depth - 1)
 }
 
-// The number of the first fault of an opaque value in which FECs may stand `depth` deep, or DONE.
-#[cycle(fec_fault_opaque_fault)]
-fn opaque_fault(s: &[u8], depth: u32) -> u32
-    ensures { result ≡ opaque_fault depth s.now }
+// The first fault of an opaque value in which FECs may stand `depth` deep.
+#[cycle(checks)]
+fn check_opaque(s: &[u8], depth: u32) -> Result<(), Refusal>
+    ensures { result_number result ≡ opaque_fault depth s.now }
 {
-    if !opens(s) {
-        return DONE;
-    }
+    let Some(holder) = opens_as(s) else {
+        return Ok(());
+    };
     if depth == 0 {
-        return DEEP;
+        return Err(Refusal::Deep);
     }
-    if holds(s) {
-        return fec_fault(held(s), Standing::Filling, depth);
+    match held(s, holder) {
+        Some(fec) => check_fec(fec, Standing::Filling, depth),
+        None => Err(Refusal::Ident),
     }
-    IDENT
 }

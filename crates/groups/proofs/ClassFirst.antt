@@ -1,20 +1,18 @@
 -- The class of a group, asked before what stands between its prefixes and FLOW.
 use Prim.Native.Nat.{ℕ, ◌*◌, ◌/◌, ◌≤◌}
-use mathlib.Core.Path.{◌≡◌, refl, sym, ◌∙◌, ap}
+use mathlib.Core.Path.{◌≡◌, refl, sym, ◌∙◌, subst}
 use mathlib.Core.List.{List}
 use mathlib.Core.Logic.{◌⊎◌, inl, inr, ⊎_elim}
 use native.Mathlib.Omega.{arith}
 use borrow.Author.Tests.{eqb-true}
 use lib.ListN.{length}
 use Rattle.octets.specs.Numbers.{DONE, FLOW}
-use Rattle.octets.specs.Outcome.{Outcome, given, refused, and_then, number_of}
-use Rattle.octets.proofs.Outcome.{Refuses, value, number, refuses-pick, refuses-then, refuses-by, refuses-also, and-goes-on, and-stops, outcome, number-refused, given-unless, passed}
+use Rattle.octets.specs.Outcome.{Outcome, given, refused, and_then}
+use Rattle.octets.proofs.Outcome.{Refuses, value, number, refuses-pick, refuses-then, refuses-by, and-goes-on, and-stops, outcome, never, refused-same, given-unless, passed}
 use Rattle.lists.specs.LentLists.{Item, read_list}
-use Rattle.nlri.specs.declared.group.Group.{Group}
 use Rattle.nlri.specs.Family.{family_bits}
-use Rattle.nlri.specs.Groups.{class_under, group_of}
+use Rattle.nlri.specs.Groups.{class_under}
 use Rattle.nlri.proofs.Definitions.Lengths.{family-octets}
-use Rattle.nlri.proofs.Definitions.Groups.{group-number, group-given}
 use Rattle.nlri.proofs.Definitions.Families.{family-least}
 use Rattle.groups.specs.Prefixes.{read_prefixes}
 use Rattle.groups.specs.Classes.{class_in, class_by}
@@ -81,46 +79,41 @@ class-sized afi bits f items group class e =
     let sized : length group ≡ bits / 8 = eqb-true _ _ (given-unless _ _ _ _ (passed _ _ _ e).first).0 in
     omega (arith, (family-octets afi bits f).0)
 
--- no refusal of the class call is DONE
-pub class-some : (afi : ℕ) (prefixes group : List ℕ) → Refuses (λ n. n ≡ DONE → ⊥) (class_by afi prefixes group)
-unfolding class_by
-class-some afi prefixes group =
-    refuses-then _ _ (refuses-also (λ n h. h.0) (family-refuses afi))
-    (λ bits. refuses-then _ _ (refuses-also (λ n h. h.0) (prefixes-refuse bits prefixes)) (λ items. refuses-also (λ n h e. omega arith) (class-refuses bits items group)))
-
--- what the class call answers tells which it was
-module _ (afi : ℕ) (prefixes group : List ℕ) (class : Group) (is : class ≡ group_of (class_by afi prefixes group)) where
-  number_is : class.number ≡ number_of (class_by afi prefixes group)
-  number_is = group-number _ class is
-
-  early-class : {n : ℕ} → Early afi prefixes n → class.number ≡ n
+-- what the class call comes to tells which it was
+module _ (afi : ℕ) (prefixes group : List ℕ) where
+  early-is : {n : ℕ} → Early afi prefixes n → class_by afi prefixes group ≡ refused n
   unfolding class_by
-  early-class e = number_is ∙ number-refused (sym (early-stops afi prefixes (λ bits items. class_in bits items group) e))
+  early-is e = sym (early-stops afi prefixes (λ bits items. class_in bits items group) e)
 
-  -- neither DONE nor FLOW: an early refusal
-  pub class-early : (class.number ≡ DONE → ⊥) → (class.number ≡ FLOW → ⊥) → Early afi prefixes class.number
-  unfolding class_by number_of
-  class-early some other =
-      ⊎_elim (λ e. let same = early-class e.1 in rw same e.1)
-      (λ r.
-      let by = read_goes afi prefixes (λ bits items. class_in bits items group) r in
-      ⊎_elim (λ g. absurd (some (number_is ∙ ap number_of (sym by ∙ g.1)))) (λ n. absurd (other (number_is ∙ ap number_of (sym by ∙ n.1) ∙ class-flow r.bits r.items group n.0 n.1))) (outcome (class_in r.bits r.items group)))
+  read-is : (r : Read afi prefixes) → class_by afi prefixes group ≡ class_in r.bits r.items group
+  unfolding class_by
+  read-is r = sym (read_goes afi prefixes (λ bits items. class_in bits items group) r)
+
+  -- a refusal but FLOW: an early one
+  pub refused-early : (n : ℕ) → class_by afi prefixes group ≡ refused n → (n ≡ FLOW → ⊥) → Early afi prefixes n
+  refused-early n e other =
+      ⊎_elim (λ x. subst (Early afi prefixes) (refused-same (sym (early-is x.1) ∙ e)) x.1)
+      (λ r. absurd (other (class-flow r.bits r.items group n (sym (read-is r) ∙ e))))
       (early-or-read afi prefixes)
 
-  -- DONE or FLOW: they were read, and the class is the one under them
-  pub class-read : (class.number ≡ DONE) ⊎ (class.number ≡ FLOW) → (r : Read afi prefixes) × (class ≡ group_of (class_in r.bits r.items group))
-  unfolding class_by
-  class-read h =
-      ⊎_elim
-      (λ e. let same = early-class e.1 in absurd (⊎_elim (λ done. (early-number e.1).0 (sym same ∙ done)) (λ flow. (early-number e.1).1 (sym same ∙ flow)) h))
-      (λ r. (r, is ∙ ap group_of (sym (read_goes afi prefixes (λ bits items. class_in bits items group) r))))
+  -- FLOW: they were read, and the group is refused
+  pub refused-flow : class_by afi prefixes group ≡ refused FLOW → (r : Read afi prefixes) × (class_in r.bits r.items group ≡ refused FLOW)
+  refused-flow e =
+      ⊎_elim (λ x. absurd ((early-number x.1).1 (refused-same (sym (early-is x.1) ∙ e))))
+      (λ r. (r, sym (read-is r) ∙ e))
       (early-or-read afi prefixes)
 
-  -- with DONE the group has four octets or more
-  pub class-least : class.number ≡ DONE → 4 ≤ length group
-  class-least done =
-      let under = class-read (inl done) in
+  -- a class: they were read, and it is the one under them
+  pub given-read : (class : ℕ) → class_by afi prefixes group ≡ given class → (r : Read afi prefixes) × (class_in r.bits r.items group ≡ given class)
+  given-read class e =
+      ⊎_elim (λ x. absurd (never e (early-is x.1)))
+      (λ r. (r, sym (read-is r) ∙ e))
+      (early-or-read afi prefixes)
+
+  -- a group that has one has four octets or more
+  pub given-least : (class : ℕ) → class_by afi prefixes group ≡ given class → 4 ≤ length group
+  given-least class e =
+      let under = given-read class e in
       let r = under.0 in
-      let e = group-given _ class under.1 (refuses-also (λ n f z. omega arith) (class-refuses r.bits r.items group)) done in
-      let all = class-sized afi r.bits r.of_family r.items group _ e in
+      let all = class-sized afi r.bits r.of_family r.items group class under.1 in
       omega (arith, family-least afi r.bits r.of_family)

@@ -1,5 +1,5 @@
 -- Laws of `class_by`: what it comes to where no prefix is given, and by `class_along` and `class_within`, which mirror the functions, where one is.
-use Prim.Native.Nat.{ℕ, ◌*◌, ◌-◌, ◌/◌, ◌≤◌, ◌<◌}
+use Prim.Native.Nat.{ℕ, ◌*◌, ◌/◌, ◌≤◌, ◌<◌}
 use mathlib.Core.Path.{◌≡◌, refl, sym, ◌∙◌, ap, ap₂}
 use mathlib.Core.Bool.{Bool, true, false}
 use mathlib.Core.List.{List, [], ◌∷◌}
@@ -9,18 +9,16 @@ use lib.Dec.{eqb, leb}
 use lib.ListN.{length, drop}
 use Rattle.octets.specs.Numbers.{DONE, SHORT, RANGE}
 use Rattle.octets.specs.Choice.{pick, both}
-use Rattle.octets.specs.Outcome.{Outcome, given, refused, on_outcome, and_then, number_of}
+use Rattle.octets.specs.Outcome.{Outcome, given, refused, and_then, number_of}
 use Rattle.octets.proofs.Choice.{pick_true, pick-false, pick-cong, tested, both-held, both_left, both-last}
 use Rattle.octets.proofs.Outcome.{number-stops, number-goes, Refuses, value, number, refuses-pick, refuses-then, refuses-by, and_assoc, and-given, and-refused, and-cong, and-pick, and-goes-on, and-stops, given-unless}
-use Rattle.lists.specs.LentLists.{Item, item_field, front_item, after_item, front_items, whole_items, list_count, whole_list, list_items, read_list, first_item, every_item, some_item}
+use Rattle.lists.specs.LentLists.{Item, item_field, front_items, whole_items, list_count, whole_list, list_items, read_list, first_item, every_item, some_item}
 use Rattle.lists.proofs.Items.{read-list-given, list-items-count}
-use Rattle.lists.proofs.Going.{Going, going, turned, first-left, none_left}
-use Rattle.nlri.specs.declared.group.Group.{Group}
+use Rattle.lists.proofs.Along.{turned, ended}
 use Rattle.nlri.specs.Family.{family_bits}
-use Rattle.nlri.specs.Groups.{ASM, SSM, class_under, class_of, group_of}
+use Rattle.nlri.specs.Groups.{ASM, SSM, class_under, class_of}
 use Rattle.nlri.proofs.Definitions.Lengths.{family-octets}
-use Rattle.nlri.proofs.Definitions.Groups.{group-refused, group-given}
-use Rattle.groups.specs.Prefixes.{MOST_PREFIXES, holds_group, good_item, item_holds, read_prefixes}
+use Rattle.groups.specs.Prefixes.{MOST_PREFIXES, good_prefix, holds_group, good_item, item_holds, read_prefixes}
 use Rattle.groups.specs.Classes.{class_among, class_in, prefixes_under, class_by}
 use Rattle.groups.specs.Inner.{none_given, holds_sized, class_along, class_within}
 
@@ -29,12 +27,6 @@ use Rattle.groups.specs.Inner.{none_given, holds_sized, class_along, class_withi
 abbrev NotDone : ℕ → Type 0
 NotDone n = n ≡ DONE → ⊥
 
-class-of-refuses : (afi : ℕ) (g : List ℕ) → Refuses NotDone (class_of afi g)
-unfolding class_of class_under family_bits
-class-of-refuses afi g =
-    refuses-then _ _ (refuses-pick _ _ _ value (refuses-pick _ _ _ value (number (λ e. omega arith))))
-    (λ bits. refuses-pick _ _ _ (refuses-pick _ _ _ (refuses-pick _ _ _ value value) (number (λ e. omega arith))) (number (λ e. omega arith)))
-
 list-refuses : (p : List ℕ) → Refuses NotDone (read_list 1 p)
 unfolding read_list
 list-refuses p = refuses-pick _ _ _ value (number (λ e. omega arith))
@@ -42,15 +34,6 @@ list-refuses p = refuses-pick _ _ _ value (number (λ e. omega arith))
 prefixes-refuse : (bits : ℕ) (p : List ℕ) → Refuses NotDone (read_prefixes bits p)
 unfolding read_prefixes
 prefixes-refuse bits p = refuses-pick _ _ _ (refuses-then _ _ (list-refuses p) (λ items. refuses-pick _ _ _ value (number (λ e. omega arith)))) (number (λ e. omega arith))
-
-along-refuses : (size : ℕ) (g : List ℕ) (class : ℕ) (items : List Item) → Refuses NotDone (class_along size g class items)
-unfolding class_along
-along-refuses size g class [] = value
-along-refuses size g class (x ∷ xs) = refuses-pick _ _ _ (along-refuses size g (pick (holds_sized size (item_field 0 x) g) SSM class) xs) (number (λ e. omega arith))
-
-within-refuses : (size : ℕ) (p g : List ℕ) → Refuses NotDone (class_within size p g)
-unfolding class_within
-within-refuses size p g = refuses-pick _ _ _ (refuses-then _ _ (list-refuses p) (λ items. along-refuses size g ASM items)) (number (λ e. omega arith))
 
 class-by-refuses : (afi : ℕ) (p g : List ℕ) → Refuses NotDone (class_by afi p g)
 unfolding class_by class_in class_under family_bits
@@ -68,9 +51,9 @@ pub none-short : (p : List ℕ) → length p < 2 → false ≡ none_given p
 unfolding none_given
 none-short p h = sym (both_left _ _ (lt-leb 2 (length p) h))
 
-pub none_told_lem : (p : List ℕ) → 2 ≤ length p → (count : ℕ) → count ≡ list_count p → eqb count 0 ≡ none_given p
+pub none-counted : (p : List ℕ) → 2 ≤ length p → (count : ℕ) → count ≡ list_count p → eqb count 0 ≡ none_given p
 unfolding none_given
-none_told_lem p h count e = both-last _ _ _ (le-leb 2 (length p) h) (ap (λ (n : ℕ). eqb n 0) e)
+none-counted p h count e = both-last _ _ _ (le-leb 2 (length p) h) (ap (λ (n : ℕ). eqb n 0) e)
 
 none-count : (p : List ℕ) → none_given p ≡ true → (leb 2 (length p) ≡ true) × (list_count p ≡ 0)
 unfolding none_given
@@ -93,28 +76,34 @@ none_in : (bits : ℕ) (g : List ℕ) → class_in bits [] g ≡ class_under bit
 unfolding class_in class_among pick
 none_in bits g = and-itself (class_under bits g)
 
-pub none-by : (afi : ℕ) (p g : List ℕ) (flag : Bool) → flag ≡ none_given p → flag ≡ true → (r : Group) → r ≡ group_of (class_of afi g) → r ≡ group_of (class_by afi p g)
+pub none-by : (afi : ℕ) (p g : List ℕ) (flag : Bool) → flag ≡ none_given p → flag ≡ true → class_of afi g ≡ class_by afi p g
 unfolding class_by class_of
-none-by afi p g flag e h r is =
-    is ∙ ap group_of (and-cong (family_bits afi) _ _ (λ bits f. and-goes-on _ _ _ _ (none_read bits p (sym e ∙ h)) (sym (none_in bits g))))
+none-by afi p g flag e h = and-cong (family_bits afi) _ _ (λ bits f. and-goes-on _ _ _ _ (none_read bits p (sym e ∙ h)) (sym (none_in bits g)))
 
 -- one after the other
 
-module _ (size : ℕ) (g : List ℕ) (class : ℕ) {items : List Item} {left : ℕ} {t : List ℕ} (so_far : Going 1 items (class_along size g ASM) (class_along size g class) left t) where
-  pub along-next : 0 < left → good_item (8 * size) (front_item 1 t) ≡ true → (next : ℕ) → next ≡ pick (holds_sized size (item_field 0 (front_item 1 t)) g) SSM class
-      → (t' : List ℕ) → t' ≡ after_item 1 t → Going 1 items (class_along size g ASM) (class_along size g next) (left - 1) t'
+module _ (size : ℕ) (g : List ℕ) (class : ℕ) {all : Outcome ℕ} {items : List Item} (so_far : all ≡ class_along size g class items) where
+  module _ {x : Item} {rest : List Item} (here : items ≡ x ∷ rest) (prefix : List ℕ) (is : prefix ≡ item_field 0 x) (good : Bool) (judged : good ≡ good_prefix (8 * size) prefix) where
+    pub along-stop : good ≡ false → refused RANGE ≡ all
+    unfolding class_along
+    along-stop bad = sym (turned (class_along size g class) so_far here _ (pick-false _ _ _ (ap (good_prefix (8 * size)) (sym is) ∙ sym judged ∙ bad)))
+
+    module _ (well : good ≡ true) (held : Bool) (told : held ≡ holds_sized size prefix g) where
+      past : all ≡ class_along size g (pick held SSM class) rest
+      unfolding class_along
+      past =
+          turned (class_along size g class) so_far here _
+          (pick_true _ _ _ (ap (good_prefix (8 * size)) (sym is) ∙ sym judged ∙ well) ∙ ap (λ (b : Bool). class_along size g (pick b SSM class) rest) (ap (λ (f : List ℕ). holds_sized size f g) (sym is) ∙ sym told))
+
+      pub along-held : held ≡ true → all ≡ class_along size g SSM rest
+      along-held h = past ∙ ap (λ (k : ℕ). class_along size g k rest) (pick_true _ _ _ h)
+
+      pub along-other : held ≡ false → all ≡ class_along size g class rest
+      along-other h = past ∙ ap (λ (k : ℕ). class_along size g k rest) (pick-false _ _ _ h)
+
+  pub along-last : items ≡ [] → given class ≡ all
   unfolding class_along
-  along-next more good next e t' f = rw e (turned so_far (class_along size g _) t' more f (pick_true _ _ _ good))
-
-  pub along-stop : 0 < left → good_item (8 * size) (front_item 1 t) ≡ false → (r : Group) → r ≡ group_of (refused RANGE) → r ≡ group_of (class_along size g ASM items)
-  unfolding class_along
-  along-stop more bad r e = e ∙ ap group_of (sym (first-left so_far more ∙ pick-false _ _ _ bad))
-
-  pub along-last : left ≤ 0 → record { number = DONE; group_class = class } ≡ group_of (class_along size g ASM items)
-  unfolding class_along group_of number_of on_outcome
-  along-last end = ap group_of (sym (none_left so_far end))
-
-pub ruleset along = (going, along-next, along-stop, along-last)
+  along-last end = sym (ended (class_along size g class) so_far end)
 
 -- a class told before counts where none of the rest holds the group
 told-so-far : (here rest : Bool) (class : ℕ) → pick rest SSM (pick here SSM class) ≡ pick (pick here true rest) SSM class
@@ -187,34 +176,27 @@ module _ (afi size : ℕ) (of_family : family_bits afi ≡ given (8 * size)) (p 
       ∙ sym (and-pick _ _ _ _)
 
   -- what is answered: a refusal by the prefixes, then one by the group, then the standard class, or where prefixes are given the one that they tell
-  module _ (told : Group) (is : told ≡ group_of (class_within size p g)) where
-    pub class-prefixes : (told.number ≡ DONE → ⊥) → told ≡ group_of (class_by afi p g)
-    class-prefixes h = let e = group-refused _ told is h in is ∙ ap group_of (e ∙ and-stops _ _ _ e ∙ sym within-is)
+  pub class-prefixes : (n : ℕ) → refused n ≡ class_within size p g → refused n ≡ class_by afi p g
+  class-prefixes n e = and-stops _ _ _ (sym e) ∙ sym within-is
 
-    module _ (done : told.number ≡ DONE) (standard : Group) (classed : standard ≡ group_of (class_of afi g)) where
-      within-given : class_within size p g ≡ given told.group_class
-      within-given = group-given _ told is (within-refuses size p g) done
+  module _ (told : ℕ) (is : given told ≡ class_within size p g) where
+    by-standard : class_by afi p g ≡ and_then (class_of afi g) (λ k. given (where-given told k))
+    by-standard = within-is ∙ sym (and-goes-on _ _ _ _ (sym is) refl)
 
-      by-standard : class_by afi p g ≡ and_then (class_of afi g) (λ k. given (where-given told.group_class k))
-      by-standard = within-is ∙ sym (and-goes-on _ _ _ _ within-given refl)
+    pub class-flow : (n : ℕ) → refused n ≡ class_of afi g → refused n ≡ class_by afi p g
+    class-flow n e = and-stops _ _ _ (sym e) ∙ sym by-standard
 
-      pub class-flow : (standard.number ≡ DONE → ⊥) → standard ≡ group_of (class_by afi p g)
-      class-flow h = let e = group-refused _ standard classed h in classed ∙ ap group_of (e ∙ and-stops _ _ _ e ∙ sym by-standard)
+    module _ (standard : ℕ) (classed : given standard ≡ class_of afi g) (count : ℕ) (counted : count ≡ list_count p) where
+      by_count : class_by afi p g ≡ given (where-given told standard)
+      by_count = by-standard ∙ sym (and-goes-on _ _ _ _ (sym classed) refl)
 
-      module _ (multicast : standard.number ≡ DONE) (count : ℕ) (counted : count ≡ list_count p) where
-        standard-given : class_of afi g ≡ given standard.group_class
-        standard-given = group-given _ standard classed (class-of-refuses afi g) multicast
+      pub class-standard : count ≡ 0 → given standard ≡ class_by afi p g
+      unfolding where-given
+      class-standard none = sym (by_count ∙ ap given (pick_true _ _ _ (eq-eqb _ _ (sym counted ∙ none))))
 
-        by_count : class_by afi p g ≡ given (where-given told.group_class standard.group_class)
-        by_count = by-standard ∙ sym (and-goes-on _ _ _ _ standard-given refl)
-
-        pub class-standard : count ≡ 0 → standard ≡ group_of (class_by afi p g)
-        unfolding where-given
-        class-standard none = classed ∙ ap group_of (standard-given ∙ sym (by_count ∙ ap given (pick_true _ _ _ (eq-eqb _ _ (sym counted ∙ none)))))
-
-        pub class-told : (count ≡ 0 → ⊥) → told ≡ group_of (class_by afi p g)
-        unfolding where-given
-        class-told some = is ∙ ap group_of (within-given ∙ sym (by_count ∙ ap given (pick-false _ _ _ (ne_eqb _ _ (λ e. some (counted ∙ e))))))
+      pub class-told : (count ≡ 0 → ⊥) → given told ≡ class_by afi p g
+      unfolding where-given
+      class-told some = sym (by_count ∙ ap given (pick-false _ _ _ (ne_eqb _ _ (λ e. some (counted ∙ e)))))
 
 -- the number of prefixes by themselves
 
@@ -236,37 +218,41 @@ pub under-family : (afi : ℕ) (p : List ℕ) (n : ℕ) → family_bits afi ≡ 
 unfolding prefixes_under
 under-family afi p n e = number-stops n _ _ e
 
-pub under-known : (afi size : ℕ) (p g : List ℕ) → family_bits afi ≡ given (8 * size) → (told : Group) → told ≡ group_of (class_within size p g) → told.number ≡ number_of (prefixes_under afi p)
-unfolding prefixes_under group_of
-under-known afi size p g e told is = number-goes _ _ _ _ e (ap (λ (k : Group). k.number) is ∙ within-number size p g)
+pub under-refused : (afi size : ℕ) (p g : List ℕ) → family_bits afi ≡ given (8 * size) → (n : ℕ) → refused n ≡ class_within size p g → n ≡ number_of (prefixes_under afi p)
+unfolding prefixes_under number_of
+under-refused afi size p g e n is = number-goes _ _ _ _ e (ap number_of is ∙ within-number size p g)
+
+pub under-given : (afi size : ℕ) (p g : List ℕ) → family_bits afi ≡ given (8 * size) → (class : ℕ) → given class ≡ class_within size p g → DONE ≡ number_of (prefixes_under afi p)
+unfolding prefixes_under number_of
+under-given afi size p g e class is = number-goes _ _ _ _ e (ap number_of is ∙ within-number size p g)
 
 -- the number of a list of prefixes, and each of them in turn
 module _ (size : ℕ) (p g : List ℕ) (count : ℕ) (told : count ≡ list_count p) where
-  pub within-many : MOST_PREFIXES < count → (r : Group) → r ≡ group_of (refused RANGE) → r ≡ group_of (class_within size p g)
+  pub within-many : MOST_PREFIXES < count → refused RANGE ≡ class_within size p g
   unfolding class_within
-  within-many h r e = e ∙ ap group_of (sym (pick-false _ _ _ (lt-leb (list_count p) MOST_PREFIXES (omega arith))))
+  within-many h = sym (pick-false _ _ _ (lt-leb (list_count p) MOST_PREFIXES (omega arith)))
 
   module _ (few : count ≤ MOST_PREFIXES) where
     within-few : class_within size p g ≡ and_then (read_list 1 p) (λ items. class_along size g ASM items)
     unfolding class_within
     within-few = pick_true _ _ _ (le-leb (list_count p) MOST_PREFIXES (omega arith))
 
-    pub within-short : whole_list 1 p ≡ false → (r : Group) → r ≡ group_of (refused SHORT) → r ≡ group_of (class_within size p g)
+    pub within-short : whole_list 1 p ≡ false → refused SHORT ≡ class_within size p g
     unfolding read_list
-    within-short h r e = e ∙ ap group_of (and-stops _ _ _ (pick-false _ _ _ h) ∙ sym within-few)
+    within-short h = and-stops _ _ _ (pick-false _ _ _ h) ∙ sym within-few
 
-    pub within-along : whole_list 1 p ≡ true → (r : Group) → r ≡ group_of (class_along size g ASM (list_items 1 p)) → r ≡ group_of (class_within size p g)
+    pub within-along : whole_list 1 p ≡ true → class_along size g ASM (list_items 1 p) ≡ class_within size p g
     unfolding read_list
-    within-along h r e = e ∙ ap group_of (and-goes-on _ _ _ _ (pick_true _ _ _ h) refl ∙ sym within-few)
+    within-along h = and-goes-on _ _ _ _ (pick_true _ _ _ h) refl ∙ sym within-few
 
 -- FAMILY first
 pub family-told : (afi bits : ℕ) → family_bits afi ≡ given bits → (size : ℕ) → size ≡ bits / 8 → family_bits afi ≡ given (8 * size)
 family-told afi bits of_family size e = of_family ∙ ap given (let all : bits ≡ 8 * size = omega (arith, (family-octets afi bits of_family).0) in all)
 
-pub class-family : (afi : ℕ) (p g : List ℕ) (n : ℕ) → family_bits afi ≡ refused n → (r : Group) → r ≡ group_of (refused n) → r ≡ group_of (class_by afi p g)
+pub class-family : (afi : ℕ) (p g : List ℕ) (n : ℕ) → refused n ≡ family_bits afi → refused n ≡ class_by afi p g
 unfolding class_by
-class-family afi p g n e r is = is ∙ ap group_of (and-stops _ _ _ e)
+class-family afi p g n e = and-stops _ _ _ (sym e)
 
 -- the whole of each slice
-pub whole_by : (afi : ℕ) (p q g k : List ℕ) → q ≡ drop 0 p → k ≡ drop 0 g → (r : Group) → r ≡ group_of (class_by afi q k) → r ≡ group_of (class_by afi p g)
-whole_by afi p q g k e f r is = is ∙ ap₂ (λ (x y : List ℕ). group_of (class_by afi x y)) e f
+pub whole_by : (afi : ℕ) (p q g k : List ℕ) → q ≡ drop 0 p → k ≡ drop 0 g → class_by afi q k ≡ class_by afi p g
+whole_by afi p q g k e f = ap₂ (class_by afi) e f

@@ -1,15 +1,12 @@
 // The prefixes in a lent list.
-ghost use Rattle.std.specs.Prelude.{◌≡◌, true, ◌*◌, length, drop};
-ghost use Rattle.octets.specs.Choice.{pick};
-ghost use Rattle.lists.specs.LentLists.{item_field, front_item, whole_item, whole_list, list_items};
-ghost use Rattle.nlri.specs.Groups.{ASM, SSM, group_of};
-ghost use Rattle.groups.specs.Prefixes.{good_item};
-ghost use Rattle.groups.specs.Inner.{none_given, holds_sized, class_along, class_within};
+ghost use Rattle.std.specs.Prelude.{◌≡◌};
+ghost use Rattle.nlri.specs.Groups.{ASM, class_outcome};
+ghost use Rattle.groups.specs.Inner.{none_given, class_along, class_within};
 
 use crate::prefix;
-use lists::FIRST;
-use nlri::Group;
-use octets::number::{DONE, RANGE, SHORT};
+use lists::item::Items;
+use nlri::GroupClass;
+use octets::refusal::Refusal;
 
 const FIELDS: usize = 1;
 
@@ -19,62 +16,43 @@ const MOST_PREFIXES: usize = 8;
 pub(crate) fn are_none(prefixes: &[u8]) -> bool
     ensures { result ≡ none_given prefixes.now }
 {
-    if prefixes.len() < 2 {
-        return false;
-    }
-    lists::count_of(prefixes) == 0
+    2 <= prefixes.len() && lists::count_of(prefixes) == 0
 }
 
 // The class of a group by prefixes for addresses of `size` octets: RANGE for more than eight, SHORT, then each of them.
-pub(crate) fn class_within(prefixes: &[u8], size: usize, group: &[u8]) -> Group
-    ensures { result ≡ group_of (class_within size prefixes.now group.now) }
+pub(crate) fn class_within(
+    prefixes: &[u8],
+    size: usize,
+    group: &[u8],
+) -> Result<GroupClass, Refusal>
+    ensures { class_outcome result ≡ class_within size prefixes.now group.now }
 {
     if MOST_PREFIXES < lists::count_of(prefixes) {
-        return Group::refused(RANGE);
+        return Err(Refusal::Range);
     }
     if !lists::is_whole(prefixes, FIELDS) {
-        return Group::refused(SHORT);
+        return Err(Refusal::Short);
     }
-    class_along(prefixes, size, group)
+    class_along(lists::items_of(prefixes), size, group)
 }
 
 // Each prefix in turn: RANGE for one that is not good, SSM where one holds the group, else ASM.
-fn class_along(prefixes: &[u8], size: usize, group: &[u8]) -> Group
-    requires { whole_list 1 prefixes.now ≡ true }
-    ensures { result ≡ group_of (class_along size group.now ASM (list_items 1 prefixes.now)) }
+fn class_along(
+    prefixes: Items<'_, FIELDS>,
+    size: usize,
+    group: &[u8],
+) -> Result<GroupClass, Refusal>
+    ensures { class_outcome result ≡ class_along size group.now ASM prefixes.entry }
 {
-    let mut group_class = Group::ASM;
-    let mut at = FIRST;
-    let mut left = lists::count_of(prefixes);
-    while 0 < left {
-        if !is_good(prefixes, at, size) {
-            return Group::refused(RANGE);
+    let mut class = GroupClass::Asm;
+    for item in prefixes {
+        let prefix = item.field(0);
+        if !prefix::is_good(prefix, size) {
+            return Err(Refusal::Range);
         }
-        group_class = class_with(prefixes, at, size, group, group_class);
-        at = lists::after_item(prefixes, at, FIELDS);
-        left -= 1;
+        if prefix::is_held(prefix, size, group) {
+            class = GroupClass::Ssm;
+        }
     }
-    Group {
-        number: DONE,
-        group_class,
-    }
-}
-
-// The prefix at a cursor is good.
-fn is_good(prefixes: &[u8], at: usize, size: usize) -> bool
-    requires { whole_item 1 (drop at prefixes.now) ≡ true }
-    ensures { result ≡ good_item (8 * size) (front_item 1 (drop at prefixes.now)) }
-{
-    prefix::is_good(lists::item_field(prefixes, at, 0), size)
-}
-
-// SSM where the prefix at a cursor, which is good, holds the group; else the class that those before it told.
-fn class_with(prefixes: &[u8], at: usize, size: usize, group: &[u8], group_class: u32) -> u32
-    requires { (whole_item 1 (drop at prefixes.now) ≡ true) × (good_item (8 * size) (front_item 1 (drop at prefixes.now)) ≡ true) }
-    ensures { result ≡ pick (holds_sized size (item_field 0 (front_item 1 (drop at prefixes.now))) group.now) SSM group_class }
-{
-    if prefix::is_held(lists::item_field(prefixes, at, 0), size, group) {
-        return Group::SSM;
-    }
-    group_class
+    Ok(class)
 }

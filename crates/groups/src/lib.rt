@@ -5,4 +5,4 @@ mod class;
 mod lent;
 mod prefix;
 
-pub use class::{class_by_prefixes, group_class, prefixes_fault};
+pub use class::{check_prefixes, class_by_prefixes, group_class};

@@ -7,44 +7,40 @@ use native.Mathlib.Nat.{suc-mul}
 use native.Mathlib.Omega.{arith}
 use borrow.Author.Tests.{leb-true, leb-false, le-leb, lt-leb}
 use lib.ListN.{length, drop, length-drop}
-use lib.Seq.{drop-drop}
 use lib.Dec.{leb}
 use Rattle.octets.specs.Choice.{both}
 use Rattle.octets.specs.Octets.{part, number_in}
 use Rattle.octets.proofs.Choice.{tested, both-true-left, both-true-right, both-assoc}
 use Rattle.lists.specs.LentLists.{item_field, front_number, front_field, after_field, whole_field, front_item, after_item, whole_item, whole_items}
 
--- the field at a cursor, whose size is the number in two octets there
-module _ (list : List ℕ) (at : ℕ) where
-  pub whole-field-within : whole_field (drop at list) ≡ true → at + 2 + number_in (part list at 2) 0 ≤ length list
+-- the first field, whose size is the number in the first two octets
+module _ (s : List ℕ) where
+  pub whole-field-within : whole_field s ≡ true → 2 + number_in (part s 0 2) 0 ≤ length s
   unfolding whole_field front_number part
-  whole-field-within h = omega (arith, leb-true (2 + front_number (drop at list)) (length (drop at list)) h, length-drop at list)
+  whole-field-within h = leb-true (2 + front_number s) (length s) h
 
-  pub whole-field-none : length list < at + 2 → false ≡ whole_field (drop at list)
+  pub whole-field-none : length s < 2 → false ≡ whole_field s
   unfolding whole_field
-  whole-field-none h = sym (lt-leb (2 + front_number (drop at list)) (length (drop at list)) (omega (arith, length-drop at list)))
+  whole-field-none h = sym (lt-leb (2 + front_number s) (length s) (omega arith))
 
-  module _ (n : ℕ) (size : n ≡ number_in (part list at 2) 0) where
-    pub whole-field-is : at + 2 ≤ length list → leb n (length list - 2 - at) ≡ whole_field (drop at list)
+  module _ (n : ℕ) (size : n ≡ number_in (part s 0 2) 0) where
+    pub whole-field-is : 2 ≤ length s → leb n (length s - 2) ≡ whole_field s
     unfolding whole_field front_number part
-    whole-field-is h = rw (← size, length-drop at list) (shifted n (length list) at h)
+    whole-field-is h = rw (← size) (shifted n (length s) h)
       where
-        shifted : (m l a : ℕ) → a + 2 ≤ l → leb m (l - 2 - a) ≡ leb (2 + m) (l - a)
-        shifted m l a h =
-            tested (leb m (l - 2 - a))
-            (λ t. t ∙ sym (le-leb (2 + m) (l - a) (omega (arith, leb-true m (l - 2 - a) t))))
-            (λ f. f ∙ sym (lt-leb (2 + m) (l - a) (omega (arith, leb-false m (l - 2 - a) f))))
+        shifted : (m l : ℕ) → 2 ≤ l → leb m (l - 2) ≡ leb (2 + m) l
+        shifted m l h =
+            tested (leb m (l - 2))
+            (λ t. t ∙ sym (le-leb (2 + m) l (omega (arith, leb-true m (l - 2) t))))
+            (λ f. f ∙ sym (lt-leb (2 + m) l (omega (arith, leb-false m (l - 2) f))))
 
-    pub after-field-is : drop (at + 2 + n) list ≡ after_field (drop at list)
+    pub after-field-is : (r : List ℕ) → r ≡ drop (2 + n) s → r ≡ after_field s
     unfolding after_field front_number part
-    after-field-is = ap (λ (m : ℕ). drop m list) (sum at n _ size) ∙ sym (drop-drop _ at list)
-      where
-        sum : (a m k : ℕ) → m ≡ k → a + 2 + m ≡ a + (2 + k)
-        sum a m k p = omega arith
+    after-field-is r e = e ∙ rw size
 
-    pub front-field-is : (r : List ℕ) → r ≡ part list (at + 2) n → r ≡ front_field (drop at list)
+    pub front-field-is : (r : List ℕ) → r ≡ part s 2 n → r ≡ front_field s
     unfolding front_field front_number part
-    front-field-is r e = e ∙ rw (size, ← drop-drop 2 at list)
+    front-field-is r e = e ∙ rw size
 
 -- a field of an item stands after those before it
 item-field : (i fields : ℕ) (s : List ℕ) → i < fields → item_field i (front_item fields s) ≡ front_field (after_item i s)
@@ -83,3 +79,13 @@ whole-item-less i k s w h = both-true-left _ _ (sym (whole-item-add i (k - i) s)
 pub whole-item-last : (i : ℕ) (s t : List ℕ) → whole_item (i + 1) s ≡ true → t ≡ after_item i s → whole_field t ≡ true
 unfolding whole_item
 whole-item-last i s t w e = rw e (both-true-left _ _ (both-true-right _ _ (sym (whole-item-add i 1 s) ∙ w)))
+
+-- a whole item of a field or more starts within the list
+pub whole-item-within : (list : List ℕ) (at i : ℕ) → whole_item (i + 1) (drop at list) ≡ true → at ≤ length list
+unfolding whole_item
+whole-item-within list at i w =
+    let one : whole_item 1 (drop at list) ≡ true = whole-item-less 1 (i + 1) (drop at list) w (omega arith) in
+    let h = whole-field-within (drop at list) (both-true-left _ _ one) in
+    omega (arith, length-drop at list)
+
+pub ruleset fields = (whole-field-within, whole-field-none, whole-field-is, after-field-is, front-field-is)

@@ -1,28 +1,12 @@
--- Loops over the items of a whole list. A crate above writes such a loop as
---     let mut at = FIRST;
---     let mut left = count_of(list);
---     while 0 < left {
---         if is_asked(list, at, ..) {
---             return true;
---         }
---         at = after_item(list, at, FIELDS);
---         left -= 1;
---     }
---     false
--- where `is_asked` requires `whole_item FIELDS (drop at list) ≡ true` and is a test of `front_item FIELDS (drop at list)`, by `item_field`. The loop is
--- `first_item asked (λ x. true) false` of `list_items FIELDS list`, its measure is `left`, and its invariant
+-- Loops over the items of a whole list by how many are left and where the next of them stands, for a caller that counts where an item stands. (A loop
+-- over an iterator is Along.) Such a loop is `first_item asked (λ x. true) false` of `list_items FIELDS list`; its measure is `left`, and its invariant
 --     Going FIELDS (list_items FIELDS list) (first_item asked (λ x. true) false) (first_item asked (λ x. true) false) left (drop at list)
--- A loop that answers the first fault's number, or whether every item meets a test, has another `first_item`. Every need is `(λ c. search going)`.
--- Where a loop carries a value along, what the items come to from that value on takes the place of the second `first_item`: a turn is then `turned`,
--- and what is returned in it and at the end `first-left` and `none_left`.
+-- A turn that passes an item is `going_next`, the item that is found `going-stop`, and the end `going-last`; most needs are `search going`.
 use Prim.Native.Nat.{ℕ, ◌-◌, ◌≤◌, ◌<◌}
 use mathlib.Core.Path.{◌≡◌, refl, sym, ◌∙◌, ap}
-use mathlib.Core.Bool.{Bool, true, false, not}
+use mathlib.Core.Bool.{Bool, true, false}
 use mathlib.Core.List.{List, [], ◌∷◌}
 use lib.ListN.{drop}
-use lib.Dec.{eqb}
-use borrow.Author.Tests.{eq-eqb, ne_eqb}
-use Rattle.octets.specs.Numbers.{DONE}
 use Rattle.octets.specs.Choice.{both}
 use Rattle.octets.proofs.Choice.{pick_true, pick-false, both-true-left, both-true-right, flag-not, not_is}
 use Rattle.octets.proofs.Orders.{same-is, same-on, same-off}
@@ -81,12 +65,5 @@ module _ {A : Type 0} (test : Item → Bool) (found : Item → A) (none : A) {fi
   unfolding first_item
   going-last end = sym (none_left going end)
 
--- an item's number, by which it is refused or not
-pub fault-some : (n m : ℕ) → n ≡ m → (n ≡ DONE → ⊥) → not (eqb m DONE) ≡ true
-fault-some n m e h = ap not (ne_eqb m DONE (λ z. h (e ∙ z)))
-
-pub fault-none : (n m : ℕ) → n ≡ m → n ≡ DONE → not (eqb m DONE) ≡ false
-fault-none n m e z = ap not (eq-eqb m DONE (sym e ∙ z))
-
 pub ruleset going =
-    (refusals, whole-item-less, item-field-of, going-first, going-here, going_next, going-stop, going-last, flag-not, not_is, fault-some, fault-none, same-is, same-on, same-off)
+    (refusals, whole-item-less, item-field-of, going-first, going-here, going_next, going-stop, going-last, flag-not, not_is, same-is, same-on, same-off)

@@ -2,6 +2,7 @@
 pub mod Fields
 pub mod Walks
 pub mod Going
+pub mod Along
 pub mod Items
 pub mod Accepting
 pub mod ListRule

@@ -1,12 +1,16 @@
-// Lists that a caller lends: their count, whether they are whole, a cursor over their items, and an item's fields as parts of the
+// Lists that a caller lends: their count, whether they are whole, their items one after the other, and an item's fields as parts of the
 // list, so that no octet is copied. Neither installed nor exported to C, so its helpers may have a `requires`: a call asks
 // `count_of` and `is_whole` before it looks at items.
 #![tactic(auto)]
 
-ghost use Rattle.std.specs.Prelude.{◌≡◌, true, ◌+◌, ◌^◌, ◌<◌, drop};
-ghost use Rattle.lists.specs.LentLists.{item_field, front_field, after_field, whole_field, front_item, after_item, whole_item, list_count, whole_list};
+ghost use Rattle.std.specs.Prelude.{◌≡◌, true, ◌+◌, ◌^◌, ◌<◌, length, drop};
+ghost use Rattle.lists.specs.LentLists.{item_field, front_item, whole_item, list_count, whole_list, list_items};
 
-use octets::parts::between;
+mod field;
+pub mod item;
+
+use item::Items;
+use octets::parts::after;
 use octets::wide::two;
 
 // Where the first item starts: after the count.
@@ -17,80 +21,47 @@ pub fn count_of(list: &[u8]) -> usize
     ensures value { result ≡ list_count list.now }
     ensures upper_bound { result < 2 ^ 16 }
 {
-    if list.len() < 2 {
+    if list.len() < FIRST {
         return 0;
     }
     two(list, 0) as usize
 }
 
-// The field at `at` does not run past the list.
-fn is_field_whole(list: &[u8], at: usize) -> bool
-    ensures { result ≡ whole_field (drop at list.now) }
-{
-    if list.len() < 2 {
-        return false;
-    }
-    let last = list.len() - 2;
-    if last < at {
-        return false;
-    }
-    two(list, at) as usize <= last - at
-}
-
-// Where what follows the field at `at` starts.
-fn after_field(list: &[u8], at: usize) -> usize
-    requires { whole_field (drop at list.now) ≡ true }
-    ensures { drop result list.now ≡ after_field (drop at list.now) }
-{
-    at + 2 + two(list, at) as usize
-}
-
-// The octets of the field at `at`.
-fn field_at(list: &[u8], at: usize) -> &[u8]
-    requires { whole_field (drop at list.now) ≡ true }
-    ensures { result.now ≡ front_field (drop at list.now) }
-{
-    between(list, at + 2, two(list, at) as usize)
-}
-
 // The list holds its count, and all its items, of so many fields each: fields that stand one after the other.
+#[tactic(auto, using(crate::proofs::Walks::walks))]
 pub fn is_whole(list: &[u8], fields: usize) -> bool
     requires { fields < 2 ^ 16 }
     ensures { result ≡ whole_list fields list.now }
 {
-    if list.len() < 2 {
+    if list.len() < FIRST {
         return false;
     }
-    let mut at = FIRST;
-    let mut fields_left = count_of(list) * fields;
-    while 0 < fields_left {
-        if !is_field_whole(list, at) {
+    let mut rest = after(list, FIRST);
+    for _ in 0..count_of(list) * fields {
+        if !field::is_whole(rest) {
             return false;
         }
-        at = after_field(list, at);
-        fields_left -= 1;
+        rest = field::after(rest);
     }
     true
 }
 
-// Where what follows the item at `at` starts: the next item, if there is one.
-pub fn after_item(list: &[u8], at: usize, fields: usize) -> usize
-    requires { whole_item fields (drop at list.now) ≡ true }
-    ensures { drop result list.now ≡ after_item fields (drop at list.now) }
+// The items of a list that `is_whole` has accepted.
+pub fn items_of<const FIELDS: usize>(list: &[u8]) -> Items<'_, FIELDS>
+    requires { whole_list FIELDS list.now ≡ true }
+    ensures value { result ≡ list_items FIELDS list.now }
+    ensures upper_bound { length result < 2 ^ 16 }
 {
-    let mut next = at;
-    let mut left = fields;
-    while 0 < left {
-        next = after_field(list, next);
-        left -= 1;
+    Items {
+        octets: after(list, FIRST),
+        left: count_of(list),
     }
-    next
 }
 
-// The octets of field `i`, from 0, of the item at `at`.
+// The octets of field `i`, from 0, of the item at `at`, for a caller that counts where an item stands.
 pub fn item_field(list: &[u8], at: usize, i: usize) -> &[u8]
     requires { whole_item (i + 1) (drop at list.now) ≡ true }
     ensures { result.now ≡ item_field i (front_item (i + 1) (drop at list.now)) }
 {
-    field_at(list, after_item(list, at, i))
+    field::front(field::skip(after(list, at), i))
 }

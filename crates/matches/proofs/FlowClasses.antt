@@ -13,15 +13,13 @@ use Rattle.octets.specs.Choice.{pick}
 use Rattle.octets.specs.Outcome.{Outcome, given, refused, and_then}
 use Rattle.octets.proofs.Choice.{pick_true, pick-false, tested}
 use Rattle.octets.proofs.Outcome.{and-cong, and_assoc, outcome, and-goes-on, and-stops}
-use Rattle.nlri.specs.declared.group.Group.{Group}
 use Rattle.nlri.specs.Family.{family_bits, is_originator_size}
 use Rattle.lists.specs.LentLists.{Item}
-use Rattle.nlri.specs.Groups.{class_under, group_of}
+use Rattle.nlri.specs.Groups.{class_under}
 use Rattle.groups.specs.Prefixes.{read_prefixes}
 use Rattle.groups.specs.Classes.{class_in, class_by}
-use Rattle.groups.proofs.ClassFirst.{class-flow, class-some, class-least}
+use Rattle.groups.proofs.ClassFirst.{class-flow, given-least}
 use Rattle.nlri.proofs.Definitions.Lengths.{family-octets, originator-sized}
-use Rattle.nlri.proofs.Definitions.Groups.{group-refused, group-given}
 use Rattle.routes.specs.Query.{tiers_of, Query, Flow, flow_query}
 use Rattle.routes.specs.Arguments.{read_flow}
 use Rattle.matches.specs.Scanning.{sought_of, open_tiers, open_query, sized_fault}
@@ -82,44 +80,43 @@ module _ (afi : ℕ) (flow : Flow) where
       ∙ sym (and_assoc (read_prefixes bits flow.prefixes) (λ items. class_in bits items flow.group) sized-query))
       ∙ sym (and_assoc (family_bits afi) (λ bits. and_then (read_prefixes bits flow.prefixes) (λ items. class_in bits items flow.group)) sized-query)
 
--- no fault by a class and by sizes
-sized-none : (number router source group : ℕ) → sized_fault number router source group ≡ DONE → (number ≡ DONE) × (is_originator_size router ≡ true) × (source ≡ group)
-unfolding sized_fault
-sized-none number router source group e =
-    tested (eqb number DONE)
-    (λ d. tested (is_originator_size router)
-    (λ r. tested (eqb source group) (λ a. (eqb-true _ _ d, r, eqb-true _ _ a)) (λ u. let z : FLOW ≡ DONE = sym (pick_true _ _ _ d ∙ pick_true _ _ _ r ∙ pick-false _ _ _ u) ∙ e in absurd (omega arith)))
-    (λ o. let z : FLOW ≡ DONE = sym (pick_true _ _ _ d ∙ pick-false _ _ _ o) ∙ e in absurd (omega arith)))
-    (λ n. absurd (eqb-false _ _ n (sym (pick-false _ _ _ n) ∙ e)))
+-- no fault by sizes
+sized-none : (router source group : ℕ) → sized_fault DONE router source group ≡ DONE → (is_originator_size router ≡ true) × (source ≡ group)
+unfolding sized_fault pick
+sized-none router source group e =
+    tested (is_originator_size router)
+    (λ r. tested (eqb source group) (λ a. (r, eqb-true _ _ a)) (λ u. let z : FLOW ≡ DONE = sym (pick_true _ _ _ r ∙ pick-false _ _ _ u) ∙ e in absurd (omega arith)))
+    (λ o. let z : FLOW ≡ DONE = sym (pick-false _ _ _ o) ∙ e in absurd (omega arith))
 
--- what the class call and the function of sizes answer
-module _ (afi : ℕ) (flow : Flow) (class : Group) (is : class ≡ group_of (class_by afi flow.prefixes flow.group))
-    (fault : ℕ) (told : fault ≡ sized_fault class.number (length flow.router) (length flow.source) (length flow.group)) where
-  class-given : class.number ≡ DONE → read_flow afi flow ≡ sized-query afi flow class.group_class
-  class-given d = by-class afi flow ∙ sym (and-goes-on _ _ _ _ (group-given _ class is (class-some afi flow.prefixes flow.group) d) refl)
+-- what the class call and the test of sizes tell
+module _ (afi : ℕ) (flow : Flow) where
+  pub flow-unclassed : (n : ℕ) → refused n ≡ class_by afi flow.prefixes flow.group → read_flow afi flow ≡ refused n
+  flow-unclassed n e = by-class afi flow ∙ sym (and-stops _ _ _ (sym e))
 
-  pub flow-stopped : (fault ≡ DONE → ⊥) → read_flow afi flow ≡ refused fault
-  unfolding sized_fault sized-query
-  flow-stopped some =
-      tested (eqb class.number DONE)
-      (λ d. class-given (eqb-true _ _ d)
-      ∙ tested (is_originator_size (length flow.router))
-      (λ r. tested (eqb (length flow.source) (length flow.group))
-      (λ a. absurd (some (told ∙ pick_true _ _ _ d ∙ pick_true _ _ _ r ∙ pick_true _ _ _ a)))
-      (λ u. pick_true _ _ _ r ∙ pick-false _ _ _ u ∙ ap refused (sym (told ∙ pick_true _ _ _ d ∙ pick_true _ _ _ r ∙ pick-false _ _ _ u))))
-      (λ o. pick-false _ _ _ o ∙ ap refused (sym (told ∙ pick_true _ _ _ d ∙ pick-false _ _ _ o))))
-      (λ n. by-class afi flow ∙ sym (and-stops _ _ _ (group-refused _ class is (eqb-false _ _ n))) ∙ ap refused (sym (told ∙ pick-false _ _ _ n)))
+  module _ (class : ℕ) (classed : given class ≡ class_by afi flow.prefixes flow.group) where
+    class-given : read_flow afi flow ≡ sized-query afi flow class
+    class-given = by-class afi flow ∙ sym (and-goes-on _ _ _ _ (sym classed) refl)
 
-  pub flow-taken : fault ≡ DONE → read_flow afi flow ≡ given (open_query (sought_of flow.router flow.source flow.group) (open_tiers class.group_class))
-  unfolding sized-query
-  flow-taken none =
-      let all = sized-none _ _ _ _ (sym told ∙ none) in
-      class-given all.0 ∙ pick_true _ _ _ all.1 ∙ pick_true _ _ _ (eq-eqb _ _ all.2)
+    pub flow-missized : (fault : ℕ) → fault ≡ sized_fault DONE (length flow.router) (length flow.source) (length flow.group) → (fault ≡ DONE → ⊥) → read_flow afi flow ≡ refused fault
+    unfolding sized_fault sized-query pick
+    flow-missized fault told some =
+        class-given
+        ∙ tested (is_originator_size (length flow.router))
+        (λ r. tested (eqb (length flow.source) (length flow.group))
+        (λ a. absurd (some (told ∙ pick_true _ _ _ r ∙ pick_true _ _ _ a)))
+        (λ u. pick_true _ _ _ r ∙ pick-false _ _ _ u ∙ ap refused (sym (told ∙ pick_true _ _ _ r ∙ pick-false _ _ _ u))))
+        (λ o. pick-false _ _ _ o ∙ ap refused (sym (told ∙ pick-false _ _ _ o)))
+
+    pub flow-taken : DONE ≡ sized_fault DONE (length flow.router) (length flow.source) (length flow.group) → read_flow afi flow ≡ given (open_query (sought_of flow.router flow.source flow.group) (open_tiers class))
+    unfolding sized-query
+    flow-taken none =
+        let all = sized-none _ _ _ (sym none) in
+        class-given ∙ pick_true _ _ _ all.0 ∙ pick_true _ _ _ (eq-eqb _ _ all.1)
 
 -- a flow that is taken has a source and a group, and a router address of four octets or more
-pub flow-some : (afi : ℕ) (prefixes group : List ℕ) (class : Group) → class ≡ group_of (class_by afi prefixes group)
-    → (router source fault : ℕ) → fault ≡ sized_fault class.number router source (length group) → fault ≡ DONE → (0 < source) × (0 < length group) × (4 ≤ router)
-flow-some afi prefixes group class is router source fault told none =
-    let all = sized-none _ _ _ _ (sym told ∙ none) in
-    let some = class-least afi prefixes group class is all.0 in
-    (omega (arith, all.2), omega arith, omega (arith, originator-sized router all.1))
+pub flow-some : (afi : ℕ) (prefixes group : List ℕ) (class : ℕ) → given class ≡ class_by afi prefixes group
+    → (router source : ℕ) → DONE ≡ sized_fault DONE router source (length group) → (0 < source) × (0 < length group) × (4 ≤ router)
+flow-some afi prefixes group class is router source none =
+    let all = sized-none _ _ _ (sym none) in
+    let some = given-least afi prefixes group class (sym is) in
+    (omega (arith, all.1), omega arith, omega (arith, originator-sized router all.0))

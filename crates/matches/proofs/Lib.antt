@@ -1,4 +1,5 @@
 -- Laws that the functions' proofs use.
+pub mod TierOrders
 pub mod Tiers
 pub mod FlowClasses
 pub mod Scans

@@ -2,69 +2,59 @@
 ghost use Rattle.std.specs.Prelude.{◌≡◌, true, ◌≤◌, ◌<◌, length};
 ghost use Rattle.routes.specs.Table.{afi_in, routes_of, sound_of};
 ghost use Rattle.routes.specs.Matching.{match_in};
-ghost use Rattle.routes.specs.Answers.{matched_by};
+ghost use Rattle.routes.specs.Answers.{matched_by, matched_told};
 ghost use Rattle.routes.specs.Calls.{match_of};
 ghost use Rattle.routes.specs.Query.{flow_of};
 ghost use Rattle.routes.specs.Asked.{of_flow};
 ghost use Rattle.octets.specs.Outcome.{given};
 ghost use Rattle.octets.specs.Outputs.{Leaves};
-ghost use Rattle.matches.specs.Scanning.{sought_of, open_query};
+ghost use Rattle.matches.specs.Scanning.{flow_in, sought_in, open_query, Asked};
 
-use crate::tier::Tiers;
-use crate::{answer, flow, scan};
-use octets::number::{DONE, SPACE, TABLE};
+use crate::flow::Flow;
+use crate::tier::{Sought, Tiers};
+use crate::{answer, flow};
 use octets::parts;
+use octets::refusal::Refusal;
 use places::geometry::HEADER;
 use places::output::LEAST_OUTPUT;
 use places::{header, sound};
-use routes::Matched;
+use routes::{Matched, MatchedRoute};
 
-// The search, with these tiers open.
-pub(crate) fn search(
-    table: &[u8],
-    router: &[u8],
-    source: &[u8],
-    group: &[u8],
-    tiers: Tiers,
-    output: &mut [u8],
-) -> Matched
-    requires { (sound_of table.now ≡ true) × (124 ≤ length output.old) × (0 < length source.now) × (0 < length group.now) × (4 ≤ length router.now) }
-    ensures { Leaves (matched_by (given (match_in (afi_in table.now) (open_query (sought_of router.now source.now group.now) tiers) (routes_of table.now))) output.old) result output.new }
+// The search of a sound table, with these tiers open.
+pub(crate) fn search(table: &[u8], sought: &Sought<'_>, output: &mut [u8]) -> Option<MatchedRoute>
+    requires { (sound_of table.now ≡ true) × (124 ≤ length output.old) × (0 < length sought.now.source.now) × (0 < length sought.now.group.now) × (4 ≤ length sought.now.router.now) }
+    ensures { Leaves (matched_by (given (match_in (afi_in table.now) (open_query (sought_in sought.now) sought.now.tiers) (routes_of table.now))) output.old) (matched_told (Ok result)) output.new }
 {
-    let count = header::count_of(table);
     let places = parts::after(table, HEADER);
-    let best = scan::scan(places, count, router, source, group, tiers);
+    let best = sought.best(places, header::count_of(table));
     answer::answer(places, best, output)
 }
 
-// RANGE, SHORT, FLOW, SPACE, then the search.
-fn match_sound(
-    table: &[u8],
-    prefixes: &[u8],
-    router: &[u8],
-    source: &[u8],
-    group: &[u8],
-    output: &mut [u8],
-) -> Matched
-    requires { sound_of table.now ≡ true }
-    ensures { Leaves (match_of table.now (of_flow (flow_of prefixes.now router.now source.now group.now)) output.old) result output.new }
+// TABLE, RANGE, SHORT, FLOW, SPACE, or what the flow's match looks for. The hint puts it into both calls that ask by a flow.
+#[inline(always)]
+pub(crate) fn ask<'a>(table: &[u8], flow: &Flow<'a>, room: usize) -> Result<Sought<'a>, Refusal>
+    ensures { Asked table.now (flow_in flow.now) room result }
 {
-    let class = groups::group_class(header::afi_of(table), prefixes, group);
-    let fault = flow::sized_fault(class.number, router.len(), source.len(), group.len());
-    if fault != DONE {
-        return Matched::refused(fault);
+    sound::check(table)?;
+    let class = groups::group_class(header::afi_of(table), flow.prefixes, flow.group)?;
+    flow::check_sizes(flow.router.len(), flow.source.len(), flow.group.len())?;
+    if room < LEAST_OUTPUT {
+        return Err(Refusal::Space);
     }
-    if output.len() < LEAST_OUTPUT {
-        return Matched::refused(SPACE);
-    }
-    search(
-        table,
-        router,
-        source,
-        group,
-        Tiers::of_class(class.group_class),
-        output,
-    )
+    Ok(Sought {
+        router: flow.router,
+        source: flow.source,
+        group: flow.group,
+        tiers: Tiers::of_class(class as u32),
+    })
+}
+
+// What is asked, then the search.
+fn find(table: &[u8], flow: &Flow<'_>, output: &mut [u8]) -> Result<Option<MatchedRoute>, Refusal>
+    ensures { Leaves (match_of table.now (of_flow (flow_in flow.now)) output.old) (matched_told result) output.new }
+{
+    let sought = ask(table, flow, output.len())?;
+    Ok(search(table, &sought, output))
 }
 
 // Finds the route that a flow takes, and writes it at the front of the output: TABLE, RANGE, SHORT, FLOW, SPACE.
@@ -78,8 +68,11 @@ pub fn match_flow(
 ) -> Matched
     ensures { Leaves (match_of table.now (of_flow (flow_of prefixes.now router.now source.now group.now)) output.old) result output.new }
 {
-    if !sound::is_sound(table) {
-        return Matched::refused(TABLE);
-    }
-    match_sound(table, prefixes, router, source, group, output)
+    let flow = Flow {
+        prefixes,
+        router,
+        source,
+        group,
+    };
+    Matched::from(find(table, &flow, output))
 }

@@ -1,25 +1,25 @@
 // The best route, found in one pass over places, of a table or of a proposal: there is no header before them.
-ghost use Rattle.std.specs.Prelude.{◌≡◌, ℕ, ◌+◌, ◌*◌, ◌≤◌, ◌<◌, length};
+ghost use Rattle.std.specs.Prelude.{◌≡◌, ℕ, ◌*◌, ◌≤◌, ◌<◌, length};
 ghost use Rattle.octets.specs.Octets.{part};
 ghost use Rattle.octets.specs.Order.{before};
-ghost use Rattle.matches.specs.Scanning.{sought_of, ahead_at, better_at, scan_at, none_yet};
+ghost use Rattle.matches.specs.Scanning.{sought_in, ahead_at, better_at, scan_at, Kept};
 ghost use Rattle.routes.specs.Place.{route_in};
 ghost use Rattle.routes.specs.Matching.{names_tunnel};
 ghost use Rattle.nlri.specs.Standing.{standing};
 ghost use Rattle.places.specs.Readable.{nlri_at, Readable};
 
-use crate::tier;
-use crate::tier::Tiers;
+use crate::tier::Sought;
 use nlri::standing;
 use octets::{order, parts};
 use places::geometry::PLACE;
 use places::place;
+use routes::Tier;
 use tunnel::TunnelType;
 
-// The best route so far: its tier, and where its place starts. Tier 0 is no route.
+// The best route so far: its tier, and where its place starts.
 #[derive(Clone, Copy)]
 pub struct Best {
-    pub tier: u32,
+    pub tier: Tier,
     pub start: usize,
 }
 
@@ -29,7 +29,7 @@ fn names_tunnel(places: &[u8], at: usize) -> bool
     ensures { result ≡ names_tunnel (route_in (part places.now at 128)) }
 {
     let attribute = place::attribute_in(parts::between(places, at, PLACE));
-    attribute[1] != TunnelType::NONE
+    attribute[1] != TunnelType::NoTunnel as u8
 }
 
 // Route distinguishers are compared as eight octets.
@@ -44,70 +44,47 @@ fn is_lower(places: &[u8], at: usize, other: usize) -> bool
 }
 
 // The lower tier, then the lower route distinguisher.
-fn is_ahead(places: &[u8], tier: u32, at: usize, best: Best) -> bool
-    requires { Readable places.now at × ((best.tier ≡ 0 → ⊥) → Readable places.now best.start) }
+fn is_ahead(places: &[u8], tier: Tier, at: usize, best: Best) -> bool
+    requires { Readable places.now at × Readable places.now best.start }
     ensures { result ≡ ahead_at places.now tier at best }
 {
-    if best.tier == 0 {
-        return true;
-    }
-    if tier < best.tier {
-        return true;
-    }
     if tier != best.tier {
-        return false;
+        return tier < best.tier;
     }
-    let start = best.start;
-    is_lower(places, at, start)
+    is_lower(places, at, best.start)
 }
 
-// The best so far, with the route in one more place. Few routes have a tier: of these alone it is asked whether they name a tunnel.
-fn better(
-    places: &[u8],
-    router: &[u8],
-    source: &[u8],
-    group: &[u8],
-    tiers: Tiers,
-    best: Best,
-    at: usize,
-) -> Best
-    requires readable { Readable places.now at × ((best.tier ≡ 0 → ⊥) → Readable places.now best.start) }
-    requires in_bounds { 4 ≤ length router.now }
-    ensures { result ≡ better_at (sought_of router.now source.now group.now) tiers places.now best at }
-{
-    let tier = tier::tier_of(place::nlri_from(places, at), router, source, group, tiers);
-    if tier == 0 {
-        return best;
+impl<'a> Sought<'a> {
+    // The best so far, with the route in one more place. Few routes have a tier: of these alone it is asked whether they name a tunnel.
+    fn better(&self, places: &[u8], best: Option<Best>, at: usize) -> Option<Best>
+        requires readable { Readable places.now at × Kept (Readable places.now) best }
+        requires in_bounds { 4 ≤ length self.now.router.now }
+        ensures { result ≡ better_at (sought_in self.now) self.now.tiers places.now best at }
+    {
+        let Some(tier) = self.tier_of(place::nlri_from(places, at)) else {
+            return best;
+        };
+        if !names_tunnel(places, at) {
+            return best;
+        }
+        if let Some(other) = best {
+            if !is_ahead(places, tier, at, other) {
+                return best;
+            }
+        }
+        Some(Best { tier, start: at })
     }
-    if !names_tunnel(places, at) {
-        return best;
-    }
-    if is_ahead(places, tier, at, best) {
-        return Best { tier, start: at };
-    }
-    best
-}
 
-// The best route in the first `count` places.
-pub fn scan(
-    places: &[u8],
-    count: usize,
-    router: &[u8],
-    source: &[u8],
-    group: &[u8],
-    tiers: Tiers,
-) -> Best
-    requires by_index { (k : ℕ) → k < count → Readable places.now (128 * k) }
-    requires in_bounds { 4 ≤ length router.now }
-    ensures { result ≡ scan_at (sought_of router.now source.now group.now) tiers places.now count 0 none_yet }
-{
-    let mut best = Best { tier: 0, start: 0 };
-    let mut at = 0;
-    let mut left = count;
-    while 0 < left {
-        best = better(places, router, source, group, tiers, best, at);
-        at += PLACE;
-        left -= 1;
+    // The best route in the first `count` places, or none.
+    pub fn best(&self, places: &[u8], count: usize) -> Option<Best>
+        requires by_index { (k : ℕ) → k < count → Readable places.now (128 * k) }
+        requires in_bounds { 4 ≤ length self.now.router.now }
+        ensures { result ≡ scan_at (sought_in self.now) self.now.tiers places.now count 0 None }
+    {
+        let mut best = None;
+        for index in 0..count {
+            best = self.better(places, best, PLACE * index);
+        }
+        best
     }
-    best
 }

@@ -1,8 +1,9 @@
 // The call that finds the route that a shared tree (C-*,C-G) takes from the PE asked (RFC 6625, section 3.2.2).
-ghost use Rattle.std.specs.Prelude.{◌≡◌, true, ℕ, List, length};
+ghost use Rattle.std.specs.Prelude.{◌≡◌, ℕ, List, length};
 ghost use Rattle.octets.specs.Numbers.{DONE};
+ghost use Rattle.nlri.specs.Groups.{class_number};
 ghost use Rattle.lists.specs.LentLists.{list_items};
-ghost use Rattle.routes.specs.Table.{sound_of};
+ghost use Rattle.routes.specs.Answers.{matched_told};
 ghost use Rattle.routes.specs.SharedTree.{source_active_fault, tree_open};
 ghost use Rattle.routes.specs.Asked.{of_shared_tree};
 ghost use Rattle.routes.specs.Calls.{match_of};
@@ -12,17 +13,17 @@ ghost use Rattle.octets.specs.Outputs.{Leaves};
 ghost use Rattle.matches.specs.Scanning.{tree_tiers};
 
 use crate::matching;
-use crate::tier::Tiers;
-use nlri::Group;
-use octets::number::{DONE, SPACE, TABLE};
+use crate::tier::{Sought, Tiers};
+use nlri::GroupClass;
+use octets::refusal::Refusal;
 use places::output::LEAST_OUTPUT;
 use places::{header, sound};
-use routes::Matched;
+use routes::{Matched, MatchedRoute};
 use shared_trees::TreeFacts;
 
 // The tiers of a tree that was judged: 3 and 4 where its group is ASM and a condition holds.
 fn open_tiers(
-    class: u32,
+    class: GroupClass,
     router: &[u8],
     group: &[u8],
     facts: TreeFacts,
@@ -30,16 +31,15 @@ fn open_tiers(
     states: &[u8],
 ) -> Tiers
     requires { ListsJudged (length group.now) source_actives.now states.now }
-    ensures { (afi : ℕ) (prefixes : List ℕ) → source_active_fault afi (list_items 2 source_actives.now) ≡ DONE → result ≡ tree_tiers (tree_open afi (tree_of prefixes router.now group.now facts source_actives.now states.now) class) }
+    ensures { (afi : ℕ) (prefixes : List ℕ) → source_active_fault afi (list_items 2 source_actives.now) ≡ DONE → result ≡ tree_tiers (tree_open afi (tree_of prefixes router.now group.now facts source_actives.now states.now) (class_number class)) }
 {
-    if class != Group::ASM {
-        return Tiers::of_tree(false);
-    }
-    Tiers::of_tree(shared_trees::is_eligible(router, group, facts, source_actives, states))
+    let is_open = class == GroupClass::Asm
+        && shared_trees::is_eligible(router, group, facts, source_actives, states);
+    Tiers::of_tree(is_open)
 }
 
-// The refusals between TABLE and SPACE, SPACE, then the search. Tiers 1 and 2 are closed, so that the group serves as source.
-fn match_sound_shared(
+// TABLE, the refusals between it and SPACE, SPACE, then the search. Tiers 1 and 2 are closed, so that the group serves as source.
+fn find_shared(
     table: &[u8],
     prefixes: &[u8],
     router: &[u8],
@@ -48,10 +48,10 @@ fn match_sound_shared(
     source_actives: &[u8],
     states: &[u8],
     output: &mut [u8],
-) -> Matched
-    requires { sound_of table.now ≡ true }
-    ensures { Leaves (match_of table.now (of_shared_tree (tree_of prefixes.now router.now group.now facts source_actives.now states.now)) output.old) result output.new }
+) -> Result<Option<MatchedRoute>, Refusal>
+    ensures { Leaves (match_of table.now (of_shared_tree (tree_of prefixes.now router.now group.now facts source_actives.now states.now)) output.old) (matched_told result) output.new }
 {
+    sound::check(table)?;
     let class = shared_trees::tree_class(
         header::afi_of(table),
         prefixes,
@@ -59,22 +59,17 @@ fn match_sound_shared(
         group,
         source_actives,
         states,
-    );
-    if class.number != DONE {
-        return Matched::refused(class.number);
-    }
+    )?;
     if output.len() < LEAST_OUTPUT {
-        return Matched::refused(SPACE);
+        return Err(Refusal::Space);
     }
-    let tiers = open_tiers(
-        class.group_class,
+    let sought = Sought {
         router,
+        source: group,
         group,
-        facts,
-        source_actives,
-        states,
-    );
-    matching::search(table, router, group, group, tiers, output)
+        tiers: open_tiers(class, router, group, facts, source_actives, states),
+    };
+    Ok(matching::search(table, &sought, output))
 }
 
 // Finds the route that a shared tree takes, and writes it at the front of the output: TABLE, RANGE, SHORT, LONG, SHORT, FLOW, each Source
@@ -91,10 +86,7 @@ pub fn match_shared(
 ) -> Matched
     ensures { Leaves (match_of table.now (of_shared_tree (tree_of prefixes.now router.now group.now facts source_actives.now states.now)) output.old) result output.new }
 {
-    if !sound::is_sound(table) {
-        return Matched::refused(TABLE);
-    }
-    match_sound_shared(
+    Matched::from(find_shared(
         table,
         prefixes,
         router,
@@ -103,5 +95,5 @@ pub fn match_shared(
         source_actives,
         states,
         output,
-    )
+    ))
 }

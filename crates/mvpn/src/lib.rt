@@ -5,7 +5,7 @@ ghost use Rattle.std.specs.Prelude.{◌≡◌, ◌+◌, ◌*◌, length};
 ghost use Rattle.octets.specs.Outputs.{Wrote, Leaves};
 ghost use Rattle.nlri.specs.Reading.{read_nlri};
 ghost use Rattle.nlri.specs.Writing.{write_nlri};
-ghost use Rattle.runs.specs.Walking.{step_from, refused_at};
+ghost use Rattle.runs.specs.Walking.{step_taken_of, step_from, refused_at};
 ghost use Rattle.runs.specs.Modes.{walk_by};
 ghost use Rattle.pieces.specs.Feeding.{start_of, feed_of, finish_of};
 ghost use Rattle.nlri.specs.Groups.{group_of};
@@ -28,14 +28,15 @@ ghost use Rattle.mvpn.specs.Answers.{step_answer, attribute_given, attribute_ref
 use bier::Egress;
 use nlri::{Group, Layout, Nlri, NlriReading};
 use octets::number::DONE;
+use octets::refusal::Refusal;
 use octets::{Span, Written};
 use pieces::{Fed, Pieces, UnfinishedNlri};
 use plan::{Judged, Planned};
 use routes::{Explained, Following, Installed, Matched, Restarted, Salvaged, TableFacts};
 use runs::{Cursor, Step, Walked};
 use shared_trees::TreeFacts;
+use tunnel::Attribute;
 use tunnel::fec::Fec;
-use tunnel::{Attribute, Reading};
 
 // What a step answers: the number, the next cursor, and the layout of the NLRI read.
 #[repr(C)]
@@ -46,6 +47,7 @@ pub struct Stepped {
     pub layout: Layout,
 }
 
+#[tactic(auto, unfolding(crate::specs::Answers::step_answer, runs::specs::Walking::step_taken_of, runs::specs::Walking::read_to, runs::specs::Walking::ended_at, runs::specs::Walking::refused_at))]
 impl Stepped {
     // No NLRI: a refusal, or the run's end, which the caller tells by DONE with route type 0.
     fn stopped(cursor: usize, number: u32) -> Stepped
@@ -55,6 +57,25 @@ impl Stepped {
             number,
             cursor,
             layout: Layout::none(),
+        }
+    }
+
+    // A step from a cursor.
+    #[inline(always)]
+    fn new(step: Result<Option<Step>, Refusal>, cursor: usize) -> Stepped
+        ensures { result ≡ step_answer (step_taken_of step cursor) }
+    {
+        match step {
+            Ok(Some(step)) => Stepped {
+                number: DONE,
+                cursor: step.next.at,
+                layout: step.layout,
+            },
+            Ok(None) => Stepped::stopped(cursor, DONE),
+            Err(refusal) => {
+                let number = refusal.number();
+                Stepped::stopped(cursor, number)
+            }
         }
     }
 }
@@ -145,17 +166,7 @@ pub extern "C" fn mvpn_step(afi: u16, run: &[u8], cursor: usize) -> Stepped
     ensures { result ≡ step_answer (step_from afi run.now cursor) }
 {
     let at = Cursor { at: cursor };
-    match at.step(afi, run) {
-        Step::Nlri(layout, next) => {
-            return Stepped {
-                number: DONE,
-                cursor: next.at,
-                layout,
-            };
-        }
-        Step::End(last) => return Stepped::stopped(last.at, DONE),
-        Step::Refused(number, last) => return Stepped::stopped(last.at, number),
-    }
+    Stepped::new(at.step(afi, run), cursor)
 }
 
 // Walks a run to its end or its first refusal; in mode 0 unknown route types and Source Active routes that are discarded are skipped.
@@ -171,7 +182,7 @@ pub extern "C" fn mvpn_walk(afi: u16, mode: u32, run: &[u8]) -> Walked
 pub extern "C" fn mvpn_pieces_start(afi: u16, mode: u32) -> Pieces
     ensures { result ≡ start_of afi mode }
 {
-    pieces::start(afi, mode)
+    Pieces::start(afi, mode)
 }
 
 // Hands over a piece, of which octets are taken up to the end of one NLRI.
@@ -183,7 +194,7 @@ pub extern "C" fn mvpn_pieces_feed(
 ) -> Fed
     ensures { Leaves (feed_of reader unfinished.old piece.now) result unfinished.new }
 {
-    pieces::feed(reader, unfinished, piece)
+    reader.feed(unfinished, piece)
 }
 
 // Ends the run: the reader afterwards has the walk's answer.
@@ -191,7 +202,7 @@ pub extern "C" fn mvpn_pieces_feed(
 pub extern "C" fn mvpn_pieces_finish(reader: Pieces) -> Pieces
     ensures { result ≡ finish_of reader }
 {
-    pieces::finish(reader)
+    reader.finish()
 }
 
 // The class of a customer group.
@@ -199,7 +210,7 @@ pub extern "C" fn mvpn_pieces_finish(reader: Pieces) -> Pieces
 pub extern "C" fn mvpn_group_class(afi: u16, prefixes: &[u8], group: &[u8]) -> Group
     ensures { result ≡ group_of (class_by afi prefixes.now group.now) }
 {
-    groups::group_class(afi, prefixes, group)
+    Group::from(groups::group_class(afi, prefixes, group))
 }
 
 // Reads a PMSI Tunnel attribute.
@@ -208,8 +219,8 @@ pub extern "C" fn mvpn_attribute_read(attribute: &[u8]) -> AttributeReading
     ensures { result ≡ attribute_answer (read_struct attribute.now) }
 {
     match tunnel::read(attribute) {
-        Reading::Attribute(fields) => return AttributeReading::read(fields),
-        Reading::Refused(number) => return AttributeReading::refused(number),
+        Ok(fields) => return AttributeReading::read(fields),
+        Err(refusal) => return AttributeReading::refused(refusal.number()),
     }
 }
 

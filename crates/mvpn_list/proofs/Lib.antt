@@ -1,9 +1,8 @@
 -- Laws of the listing.
 pub mod Decimals
 pub mod DecimalRule
-pub mod Writes
+pub mod Texts
 pub mod Steps
-pub mod Bounds
 pub mod Lines
 pub mod RunLines
 pub mod ListingRule

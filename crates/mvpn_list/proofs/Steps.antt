@@ -1,39 +1,57 @@
--- What every turn comes to: an NLRI whose type is an octet and whose Length is at most the next cursor, or one that is skipped, or a stop whose number has at most
--- two digits; and how the lines go on by it.
-use mathlib.Core.Path.{◌≡◌, ◌∙◌, ap, ap₂}
+-- How the lines go on by a turn of the walk.
+use mathlib.Core.Path.{◌≡◌, sym, ◌∙◌, ap, ap₂}
 use mathlib.Core.List.{List, ◌∷◌, [], ◌++◌, append_assoc}
-use Prim.Native.Nat.{ℕ, suc, ◌+◌, ◌-◌, ◌<◌}
+use Prim.Native.Nat.{ℕ, suc, ◌+◌, ◌-◌, ◌≤◌, ◌<◌}
 use native.Mathlib.Omega.{arith}
-use lib.ListN.{drop}
 use Rattle.octets.specs.Octets.{part}
-use Rattle.octets.proofs.Choice.{pick-case}
-use Rattle.octets.proofs.Outcome.{refuses-by, on-case}
 use Rattle.nlri.specs.declared.layout.Layout.{Layout}
-use Rattle.nlri.proofs.Definitions.ReadNumbers.{refuses-family, refuses-layout}
 use Rattle.runs.specs.declared.stepping.Cursor.{Cursor}
-use Rattle.runs.specs.declared.turning.Turn.TheVariants.{Read, Skipped, Stopped}
 use Rattle.runs.specs.declared.walking.Walked.{Walked}
-use Rattle.runs.specs.Walking.{StepTaken, read_to, ended_at, refused_at, step_under, step_from, NlriRead}
-use Rattle.runs.specs.Modes.{turn_from, walk_by_from, nlris_by_from}
+use Rattle.runs.specs.Walking.{StepTaken, read_to, step_from, NlriRead}
+use Rattle.std.proofs.Common.{Option, Some, None, Result, Ok, Err}
+use Rattle.octets.specs.Numbers.{DONE}
+use Rattle.octets.specs.Refusals.{refusal_number}
+use Rattle.octets.specs.declared.refusal.Refusal.{Refusal}
+use Rattle.runs.specs.declared.stepping.Step.{Step}
+use Rattle.runs.specs.declared.turning.Turn.{Turn}
+use Rattle.runs.specs.declared.turning.Turn.TheVariants as turn
+use Rattle.runs.specs.Modes.{TurnTaken, turn_taken_of, Read, Skipped, Stopped, turn_from, walk_by_from, nlris_by_from}
 use Rattle.runs.proofs.Nlris.{read-header}
-use Rattle.runs.proofs.Turns.{read_step, stopped-number, walk_by_from-read, walk_by_from-skipped, walk_by_from-stopped, nlris_by_from-read, nlris_by_from-skipped, nlris_by_from-stopped}
+use Rattle.nlri.proofs.Definitions.Table.{known-octet}
+use Rattle.runs.proofs.Theorems.{step_rule}
+use Rattle.runs.proofs.Steps.{step-moves, reads-step_from}
+use Rattle.runs.proofs.Turns.{read_step, walk_by_from-read, walk_by_from-skipped, walk_by_from-stopped, nlris_by_from-read, nlris_by_from-skipped, nlris_by_from-stopped}
 use Rattle.mvpn_list.specs.Listing.{nlri_line, nlri_lines, last_line}
 
--- the number of a step has at most two digits
-abbrev Small : StepTaken → Type 0
-Small s = s.number < 100
+-- a turn by the case of its result
+module _ (r : Result (Option Turn) Refusal) (t : TurnTaken) (e : turn_taken_of r ≡ t) where
+  pub was-read : (p : Step) → r ≡ Ok (Some (turn.Read p)) → t ≡ Read p.layout p.next
+  unfolding turn_taken_of
+  was-read p q = sym e ∙ ap turn_taken_of q
 
-step-number : (afi : ℕ) (run : List ℕ) (at : ℕ) → (step_from afi run at).number < 100
-unfolding step_from step_under read_to ended_at refused_at
-step-number afi run at =
-    on-case Small _ _ _ (λ n e. omega (arith, refuses-by _ n (refuses-family afi) e))
-    (λ bits _. pick-case Small _ _ _ (λ _. omega arith)
-    (λ _. pick-case Small _ _ _ (λ _. omega arith)
-    (λ _. pick-case Small _ _ _ (λ _. omega arith)
-    (λ _. on-case Small _ _ _ (λ n e. omega (arith, refuses-by _ n (refuses-layout bits (drop at run)) e)) (λ _ _. omega arith)))))
+  pub was-skipped : (c : Cursor) → r ≡ Ok (Some (turn.Skipped c)) → t ≡ Skipped c
+  unfolding turn_taken_of
+  was-skipped c q = sym e ∙ ap turn_taken_of q
 
-pub stopped-small : (mode : ℕ) (run : List ℕ) (at n : ℕ) → turn_from 1 mode run at ≡ Stopped n → n < 100
-stopped-small mode run at n e = omega (arith, stopped-number 1 run at mode n e, step-number 1 run at)
+  pub was-end : r ≡ Ok None → t ≡ Stopped DONE
+  unfolding turn_taken_of
+  was-end q = sym e ∙ ap turn_taken_of q
+
+  pub was-refused : (x : Refusal) → r ≡ Err x → t ≡ Stopped (refusal_number x)
+  unfolding turn_taken_of
+  was-refused x q = sym e ∙ ap turn_taken_of q
+
+-- the numbers of a line have few digits
+pub read-small : (mode : ℕ) (run : List ℕ) (at : ℕ) (l : Layout) (c : Cursor) → turn_from 1 mode run at ≡ Read l c → (at ≤ 4096) × (l.route_type < 256) × (l.length ≤ 4096)
+unfolding read_to
+read-small mode run at l c e =
+    let is = read_step 1 run at mode l c e in
+    let m = step-moves 1 run at l c.at is in
+    let known = step_rule.typed 1 run at (ap (λ (s : StepTaken). s.read) is) in
+    let typed = ap (λ (s : StepTaken). s.layout.route_type) is in
+    let moved = (reads-step_from 1 run at (ap (λ (s : StepTaken). s.read) is)).cursor in
+    let sized = ap (λ (s : StepTaken). s.layout.length) is in
+    (omega arith, omega (arith, known-octet _ known), omega (arith, ap (λ (s : StepTaken). s.cursor) is))
 
 -- the line of an NLRI that begins at an offset, by its layout
 abbrev pub layout_line : (offset : ℕ) → Layout → List ℕ

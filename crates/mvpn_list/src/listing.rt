@@ -1,46 +1,91 @@
 // The whole listing of a run (document 01, "Marked examples", the listing; document 02, W-206).
-ghost use Rattle.std.specs.Prelude.{◌≡◌, ◌+◌, ◌≤◌, length};
-ghost use Rattle.octets.specs.Octets.{front};
-ghost use Rattle.octets.specs.Outputs.{Put};
-ghost use Rattle.mvpn_list.specs.Listing.{lines_of, listing_of};
+ghost use Rattle.std.specs.Prelude.{◌≡◌, Some};
+ghost use Rattle.octets.specs.Refusals.{result_number};
+ghost use Rattle.runs.specs.Modes.{mode_number};
+ghost use Rattle.mvpn_list.specs.Listing.{last_line, listing_of};
 
-use crate::format;
-use runs::{Cursor, Turn};
+use octets::refusal;
+use octets::refusal::Refusal;
+use runs::{Cursor, Mode, Turn};
+use std::fmt;
 
 // The family whose runs are listed.
 const AFI: u16 = 1;
 
-// Puts the listing of `run` in this mode at the front of `output`, and answers its size.
-pub(crate) fn list(mode: u32, run: &[u8], output: &mut [u8]) -> usize
-    requires { length (listing_of mode run.now) ≤ length output.old }
-    ensures { (result ≡ length (listing_of mode run.now)) × (output.new ≡ front (listing_of mode run.now) output.old) }
-{
-    let at = format::header(output, 0);
-    lines(mode, run, output, at)
+// The listing of a run in a mode: a line for each NLRI that is read, and the last line.
+#[derive(Clone, Copy)]
+pub(crate) struct Listing<'a> {
+    pub mode: Mode,
+    pub run: &'a [u8],
 }
 
-// Puts a line for each NLRI read, and the last line, into `output` from `start` on, and answers the place just past them.
-fn lines(mode: u32, run: &[u8], output: &mut [u8], start: usize) -> usize
-    requires { start + length (lines_of mode run.now) ≤ length output.old }
-    ensures { Put start (lines_of mode run.now) output.old result output.new }
-{
-    let mut cursor = Cursor { at: 0 };
-    let mut skipped: u32 = 0;
-    let mut at = start;
-    loop {
-        let offset = cursor.at;
-        match runs::take_turn(cursor, AFI, mode, run) {
-            Turn::Read(layout, next) => {
-                at = format::line(offset, layout.route_type, layout.length, output, at);
-                cursor = next;
-            }
-            Turn::Skipped(next) => {
-                skipped += 1;
-                cursor = next;
-            }
-            Turn::Stopped(number) => {
-                return format::last_line(mode, number, offset, skipped, output, at);
-            }
+impl fmt::Display for Listing<'_> {
+    ghost output = { λ listing. Some (listing_of (mode_number listing.mode) listing.run.now) };
+
+    fn fmt<W: fmt::Write>(&self, f: &mut fmt::Formatter<W>) -> fmt::Result {
+        writeln!(f, "MVT list 1")?;
+        let mut cursor = Cursor { at: 0 };
+        let mut skipped: u32 = 0;
+        loop {
+            let offset = cursor.at;
+            let turn = match cursor.turn(AFI, self.mode, self.run) {
+                Ok(Some(turn)) => turn,
+                Ok(None) => return self.stop(Ok(()), offset, skipped).fmt(f),
+                Err(refusal) => return self.stop(Err(refusal), offset, skipped).fmt(f),
+            };
+            let step = match turn {
+                Turn::Read(step) => step,
+                Turn::Skipped(next) => {
+                    skipped += 1;
+                    cursor = next;
+                    continue;
+                }
+            };
+            let route_type = step.layout.route_type;
+            let length = step.layout.length;
+            writeln!(f, "{offset} {route_type} {length}")?;
+            cursor = step.next;
+        }
+    }
+}
+
+impl Listing<'_> {
+    // The stop of this listing's walk.
+    fn stop(&self, judgement: Result<(), Refusal>, offset: usize, skipped: u32) -> Stop
+        ensures { result ≡ record { mode = self.now.mode; judgement = judgement; offset = offset; skipped = skipped } }
+    {
+        Stop {
+            mode: self.mode,
+            judgement,
+            offset,
+            skipped,
+        }
+    }
+}
+
+// Where and why a walk stopped, and how many NLRIs a walk that skips has skipped.
+#[derive(Clone, Copy)]
+struct Stop {
+    mode: Mode,
+    judgement: Result<(), Refusal>,
+    offset: usize,
+    skipped: u32,
+}
+
+impl fmt::Display for Stop {
+    ghost output = { λ stop. Some (last_line (mode_number stop.mode) (result_number stop.judgement) stop.offset stop.skipped) };
+
+    fn fmt<W: fmt::Write>(&self, f: &mut fmt::Formatter<W>) -> fmt::Result {
+        let word = match self.judgement {
+            Ok(()) => "end",
+            Err(_) => "stop",
+        };
+        let offset = self.offset;
+        let number = refusal::number_of(self.judgement);
+        let skipped = self.skipped;
+        match self.mode {
+            Mode::Skip => writeln!(f, "{word} {offset} {number} {skipped}"),
+            Mode::Old => writeln!(f, "{word} {offset} {number}"),
         }
     }
 }

@@ -3,14 +3,16 @@
 #![tactic(auto)]
 
 mod arguments;
-mod format;
 mod input;
 mod listing;
 
 ghost use Rattle.std.specs.Prelude.{OnOk};
 ghost use Rattle.std.specs.Io.KnownBytes.{Appends};
+ghost use Rattle.runs.specs.Modes.{mode_number};
 ghost use Rattle.mvpn_list.specs.Listing.{listing_of};
 
+use listing::Listing;
+use runs::Mode;
 use std::env::FillError;
 use std::io::{self, Write};
 use std::rt::Env;
@@ -20,28 +22,24 @@ const SEEN: usize = 4097;
 
 // How many arguments there are, the program's own name among them.
 fn argument_count(rt: &impl Env) -> usize {
-    for at in 0..usize::MAX {
-        if let Err(FillError::NotPresent) = rt.arg(at, &mut []) {
-            return at;
-        }
-    }
-    usize::MAX
+    (0..usize::MAX)
+        .take_while(|&at| !matches!(rt.arg(at, &mut []), Err(FillError::NotPresent)))
+        .count()
 }
 
 // The mode asked. An argument that is longer than `old` is not taken.
-fn asked_mode(rt: &impl Env) -> u32 {
+fn asked_mode(rt: &impl Env) -> Mode {
     let mut argument = [0u8; 3];
     let size = rt.arg(1, &mut argument).unwrap_or(0);
     arguments::mode_of(argument_count(rt), &argument[..size])
 }
 
-// Writes the listing of a run. It has at most 28,705 octets, so that the output's 65,536 suffice.
-fn print_listing<W: Write>(to: &mut W, mode: u32, run: &[u8]) -> io::Result<()>
-    ensures { OnOk result (Appends (W.contents to.old) (W.contents to.new) (listing_of mode run.now)) }
+// Writes the listing of a run.
+fn print_listing<W: Write>(to: &mut W, mode: Mode, run: &[u8]) -> io::Result<()>
+    ensures { OnOk result (Appends (W.contents to.old) (W.contents to.new) (listing_of (mode_number mode) run.now)) }
 {
-    let mut output = [0u8; 65536];
-    let end = listing::list(mode, run, &mut output);
-    to.write_all(&output[..end])
+    let listing = Listing { mode, run };
+    write!(to, "{listing}")
 }
 
 // A run that cannot be read to its end has no listing: nothing is printed, and standard error has the reason.

@@ -1,45 +1,49 @@
-// The line that tells a call's answer: its name, the number, and the other fields.
+// What a call answers, and the line that tells it: the call's name, the number, and the other fields.
 use routes::{Installed, Matched};
-use std::io;
+use std::fmt;
 
-// A call that answers a number alone.
-pub(crate) fn plain(rt: &impl Print, call: &str, value: u32) -> io::Result<()> {
-    println!(rt; "{call} {value}")
+#[derive(Drop)]
+pub(crate) enum Answer<'a> {
+    Make(u32),
+    Install(Installed),
+    Withdraw(u32),
+    // With the output, at whose front the route's octets stand.
+    Match(Matched, &'a [u8]),
 }
 
-// An install's answer: the number, and whether the route is new or replaced.
-pub(crate) fn installed(rt: &impl Print, answer: Installed) -> io::Result<()> {
-    println!(rt; "install {} {}", answer.number, answer.outcome)
+impl fmt::Display for Answer<'_> {
+    fn fmt<W: fmt::Write>(&self, f: &mut fmt::Formatter<W>) -> fmt::Result {
+        match self {
+            Answer::Make(number) => write!(f, "make {number}"),
+            Answer::Install(answer) => write!(f, "install {} {}", answer.number, answer.outcome),
+            Answer::Withdraw(number) => write!(f, "withdraw {number}"),
+            Answer::Match(answer, output) => {
+                let Matched {
+                    number,
+                    tier,
+                    nlri_size,
+                    attribute_size,
+                } = *answer;
+                write!(f, "match {number} {tier} {nlri_size} {attribute_size}")?;
+                if tier == 0 {
+                    return Ok(());
+                }
+                let size = nlri_size as usize + attribute_size as usize;
+                write!(f, " {}", Hexadecimal(output.get(..size).unwrap_or(&[])))
+            }
+        }
+    }
 }
 
 // Octets in hexadecimal, two digits each.
-fn octets_of(rt: &impl Print, s: &[u8]) -> io::Result<()> {
-    for octet in s {
-        print!(rt; "{octet:02x}")?;
-    }
-    Ok(())
-}
+#[derive(Drop)]
+struct Hexadecimal<'a>(&'a [u8]);
 
-// The first `size` octets of the output, where it has so many.
-fn route(rt: &impl Print, size: usize, output: &[u8]) -> io::Result<()> {
-    if size <= output.len() {
-        octets_of(rt, octets::parts::between(output, 0, size))?;
+impl fmt::Display for Hexadecimal<'_> {
+    fn fmt<W: fmt::Write>(&self, f: &mut fmt::Formatter<W>) -> fmt::Result {
+        for octet in self.0 {
+            write!(f, "{octet:02x}")?;
+        }
+        Ok(())
     }
-    Ok(())
-}
-
-// The route's octets, which stand at the front of the output, follow the sizes.
-pub(crate) fn matched(rt: &impl Print, answer: Matched, output: &[u8]) -> io::Result<()> {
-    let Matched {
-        number,
-        tier,
-        nlri_size,
-        attribute_size,
-    } = answer;
-    print!(rt; "match {number} {tier} {nlri_size} {attribute_size}")?;
-    if 0 < tier {
-        print!(rt; " ")?;
-        route(rt, nlri_size as usize + attribute_size as usize, output)?;
-    }
-    println!(rt; "")
 }

@@ -3,136 +3,73 @@
 //   install NLRI ATTRIBUTE
 //   withdraw NLRI
 //   match ROUTER SOURCE GROUP
-ghost use Rattle.std.specs.Prelude.{◌<◌, length};
-
-use crate::script::FIELD;
-use crate::{answer, script};
-use octets::parts::between;
+use crate::answer::Answer;
+use crate::script::{FIELD, after, decode};
 use std::io;
 
-// Each line in turn.
+// Each line in turn. A field that a line lacks is looked for in those that follow.
 pub(crate) fn run_all(
     rt: &impl Print,
     text: &[u8],
     table: &mut [u8],
     output: &mut [u8],
 ) -> io::Result<()> {
-    let mut at = 0;
-    while at < text.len() {
-        run(rt, text, at, table, output)?;
-        at = script::past(text, at, b'\n');
+    let mut rest = text;
+    while !rest.is_empty() {
+        println!(rt; "{}", run(rest, table, output))?;
+        rest = after(rest, b'\n');
     }
     Ok(())
 }
 
-// The call that a line's first word names: by the word's size, the space behind it included.
-fn run(
-    rt: &impl Print,
-    text: &[u8],
-    start: usize,
-    table: &mut [u8],
-    output: &mut [u8],
-) -> io::Result<()>
-    requires { start < length text.now }
-{
-    let at = script::past(text, start, b' ');
-    let word = at - start;
-    if word == 5 {
-        return make(rt, text, at, table);
+// The call that a line's first word names, by the word's size with the space behind it, on the fields that follow.
+fn run<'a>(text: &[u8], table: &mut [u8], output: &'a mut [u8]) -> Answer<'a> {
+    let fields = after(text, b' ');
+    match text.len() - fields.len() {
+        5 => make(fields, table),
+        6 => match_flow(fields, table, output),
+        8 => install(fields, table),
+        _ => withdraw(fields, table),
     }
-    if word == 6 {
-        return match_flow(rt, text, at, table, output);
-    }
-    change(rt, text, word, at, table)
-}
-
-// An install, or else a withdrawal.
-fn change(
-    rt: &impl Print,
-    text: &[u8],
-    word: usize,
-    at: usize,
-    table: &mut [u8],
-) -> io::Result<()> {
-    if word == 8 {
-        return install(rt, text, at, table);
-    }
-    withdraw(rt, text, at, table)
 }
 
 // Makes the table anew, for an AFI of two octets.
-fn make(rt: &impl Print, text: &[u8], at: usize, table: &mut [u8]) -> io::Result<()> {
-    let mut afi = [0u8; 2];
-    script::decode(text, at, &mut afi);
-    answer::plain(
-        rt,
-        "make",
-        table::make(octets::wide::two(&afi, 0) as u16, table),
-    )
+fn make(fields: &[u8], table: &mut [u8]) -> Answer<'static> {
+    let mut afi = [0; 2];
+    decode(fields, &mut afi);
+    Answer::Make(table::make(u16::from_be_bytes(afi), table))
 }
 
 // Installs the NLRI and the attribute that the line gives.
-fn install(rt: &impl Print, text: &[u8], at: usize, table: &mut [u8]) -> io::Result<()> {
-    let mut nlri = [0u8; FIELD];
-    let mut attribute = [0u8; FIELD];
-    let nlri_size = script::decode(text, at, &mut nlri);
-    let attribute_size = script::decode(text, script::past(text, at, b' '), &mut attribute);
-    answer::installed(
-        rt,
-        table::install(
-            table,
-            between(&nlri, 0, nlri_size),
-            between(&attribute, 0, attribute_size),
-        ),
-    )
+fn install(fields: &[u8], table: &mut [u8]) -> Answer<'static> {
+    let mut nlri = [0; FIELD];
+    let mut attribute = [0; FIELD];
+    Answer::Install(table::install(
+        table,
+        decode(fields, &mut nlri),
+        decode(after(fields, b' '), &mut attribute),
+    ))
 }
 
 // Withdraws the NLRI that the line gives.
-fn withdraw(rt: &impl Print, text: &[u8], at: usize, table: &mut [u8]) -> io::Result<()> {
-    let mut nlri = [0u8; FIELD];
-    let size = script::decode(text, at, &mut nlri);
-    answer::plain(
-        rt,
-        "withdraw",
-        table::withdraw(table, between(&nlri, 0, size)),
-    )
+fn withdraw(fields: &[u8], table: &mut [u8]) -> Answer<'static> {
+    let mut nlri = [0; FIELD];
+    Answer::Withdraw(table::withdraw(table, decode(fields, &mut nlri)))
 }
 
-// Reads the router, and goes on to the flow.
-fn match_flow(
-    rt: &impl Print,
-    text: &[u8],
-    at: usize,
-    table: &[u8],
-    output: &mut [u8],
-) -> io::Result<()> {
-    let mut router = [0u8; FIELD];
-    let size = script::decode(text, at, &mut router);
-    let next = script::past(text, at, b' ');
-    match_of(rt, text, next, table, between(&router, 0, size), output)
-}
-
-// Reads source and group, and matches the flow among the router's routes.
-fn match_of(
-    rt: &impl Print,
-    text: &[u8],
-    at: usize,
-    table: &[u8],
-    router: &[u8],
-    output: &mut [u8],
-) -> io::Result<()> {
-    let mut source = [0u8; FIELD];
-    let mut group = [0u8; FIELD];
-    let source_size = script::decode(text, at, &mut source);
-    let group_size = script::decode(text, script::past(text, at, b' '), &mut group);
-    let prefixes = [0u8; 2];
+// Matches the flow of source and group among the router's routes.
+fn match_flow<'a>(fields: &[u8], table: &[u8], output: &'a mut [u8]) -> Answer<'a> {
+    let mut router = [0; FIELD];
+    let mut source = [0; FIELD];
+    let mut group = [0; FIELD];
+    let sources = after(fields, b' ');
     let answer = matches::match_flow(
         table,
-        &prefixes,
-        router,
-        between(&source, 0, source_size),
-        between(&group, 0, group_size),
+        &[0; 2],
+        decode(fields, &mut router),
+        decode(sources, &mut source),
+        decode(after(sources, b' '), &mut group),
         output,
     );
-    answer::matched(rt, answer, output)
+    Answer::Match(answer, output)
 }

@@ -1,14 +1,11 @@
 // The script as it is read, and the fields of a line: octets in hexadecimal, two digits each.
-ghost use Rattle.std.specs.Prelude.{◌+◌, ◌<◌, ◌≤◌, length};
+ghost use Rattle.std.specs.Prelude.{◌+◌, ◌<◌, ◌≤◌, length, IfSome};
 ghost use Rattle.std.specs.Io.{ReadsAtMost};
 
 use std::io::{self, Read};
 
 // The most octets of a field.
 pub(crate) const FIELD: usize = 80;
-
-// No digit, or no two digits.
-const NONE: u32 = 256;
 
 // Reads until `script` is full or the input ends, and answers how many octets came.
 pub(crate) fn read<R: Read>(from: &mut R, script: &mut [u8]) -> io::Result<usize>
@@ -26,73 +23,43 @@ pub(crate) fn read<R: Read>(from: &mut R, script: &mut [u8]) -> io::Result<usize
 }
 
 // The value of a hexadecimal digit in lower case.
-fn digit(c: u8) -> u32
-    ensures { result ≤ 256 }
+fn digit(c: u8) -> Option<u8>
+    ensures { IfSome result (λ value. value < 16) }
 {
-    if c < b'0' {
-        return NONE;
+    match c {
+        b'0'..=b'9' => Some(c - b'0'),
+        b'a'..=b'f' => Some(c - b'a' + 10),
+        _ => None,
     }
-    if c <= b'9' {
-        return c as u32 - 48;
-    }
-    if c < b'a' {
-        return NONE;
-    }
-    if c <= b'f' {
-        return c as u32 - 87;
-    }
-    NONE
 }
 
 // The octet that two digits stand for.
-fn pair(script: &[u8], at: usize) -> u32
-    ensures { result < 256 → at + 2 ≤ length script.now }
-{
-    if script.len() < 2 {
-        return NONE;
-    }
-    if script.len() - 2 < at {
-        return NONE;
-    }
-    let high = digit(script[at]);
-    if NONE <= high {
-        return NONE;
-    }
-    let low = digit(script[at + 1]);
-    if NONE <= low {
-        return NONE;
-    }
-    (high % 16) * 16 + low % 16
+fn octet(digits: &[u8]) -> Option<u8> {
+    let [high, low] = digits else {
+        return None;
+    };
+    Some(digit(*high)? * 16 + digit(*low)?)
 }
 
-// Puts the octets whose digits begin at `start` into `field`, as many as fit, and answers how many.
-pub(crate) fn decode(script: &[u8], start: usize, field: &mut [u8]) -> usize
-    ensures { result ≤ length field.old }
-{
-    let mut size = 0;
-    let mut next = start;
-    while size < field.len() {
-        let octet = pair(script, next);
-        if 255 < octet {
-            return size;
-        }
-        field[size] = octet as u8;
-        size += 1;
-        next += 2;
+// The octets whose digits the text begins with, as many as fit.
+pub(crate) fn decode<'a>(text: &[u8], field: &'a mut [u8]) -> &'a [u8] {
+    let mut pairs = text.chunks_exact(2);
+    for size in 0..field.len() {
+        let Some(value) = pairs.next().and_then(octet) else {
+            return &field[..size];
+        };
+        field[size] = value;
     }
-    size
+    field
 }
 
-// Just past the first octet `c` from `start` on, or the script's end.
-pub(crate) fn past(script: &[u8], start: usize, c: u8) -> usize
-    ensures { (start < length script.now → start < result) × (result ≤ length script.now) }
+// What follows the first octet `c`; nothing where there is none.
+pub(crate) fn after(text: &[u8], c: u8) -> &[u8]
+    ensures shorter { 0 < length text.now → length result.now < length text.now }
+    ensures upper_bound { length result.now ≤ length text.now }
 {
-    let mut at = start;
-    while at < script.len() {
-        if script[at] == c {
-            return at + 1;
-        }
-        at += 1;
+    match text.iter().position(|octet| *octet == c) {
+        Some(at) => &text[at + 1..],
+        None => &[],
     }
-    script.len()
 }

@@ -1,4 +1,5 @@
 -- Laws of document 01's definitions.
+pub mod Apart
 pub mod Families
 pub mod FieldRecords
 pub mod Fecs
@@ -12,4 +13,3 @@ pub mod Whole
 pub mod Keys
 pub mod Discards
 pub mod Writes
-pub mod Groups

@@ -1,6 +1,10 @@
 -- The table of bodies (document 01, "NLRI on the wire"; W-207), as data.
-use Rattle.std.specs.Prelude.{ℕ, ◌≤◌, Bool, false, List, [], ◌∷◌, ◌==◌, nat_le}
+use Rattle.std.specs.Prelude.{◌≡◌, ℕ, ◌≤◌, Bool, false, Result, MatchResult, List, [], ◌∷◌, ◌==◌, nat_le}
 use Rattle.octets.specs.Choice.{pick, both, either}
+use Rattle.octets.specs.declared.refusal.Refusal.{Refusal}
+use Rattle.octets.specs.declared.refusal.Refusal.TheVariants.{«Type»}
+use Rattle.nlri.specs.declared.route.RouteType.{RouteType}
+use Rattle.nlri.specs.declared.route.RouteType.TheVariants.{IntraAsIPmsi, InterAsIPmsi, SPmsi, Leaf, SourceActive, SharedTreeJoin, SourceTreeJoin, MldpSPmsi, MldpLeaf, MldpSourceTreeJoin}
 
 -- the kinds of fields
 pub data FieldKind : Type 0 where
@@ -31,6 +35,23 @@ pub data KnownType : ℕ → Type 0 where
   mldp_s_pmsi : KnownType 67
   mldp_leaf : KnownType 68
   mldp_source_tree_join : KnownType 71
+
+-- the number of each route type
+abbrev pub type_number : RouteType → ℕ
+type_number IntraAsIPmsi = 1
+type_number InterAsIPmsi = 2
+type_number SPmsi = 3
+type_number Leaf = 4
+type_number SourceActive = 5
+type_number SharedTreeJoin = 6
+type_number SourceTreeJoin = 7
+type_number MldpSPmsi = 67
+type_number MldpLeaf = 68
+type_number MldpSourceTreeJoin = 71
+
+-- the route type of a number, or TYPE where there is none
+abbrev pub TypeTold : ℕ → Result RouteType Refusal → Type 0
+TypeTold type told = MatchResult told (λ known. type_number known ≡ type) (λ refusal. (refusal ≡ «Type») × (KnownType type → ⊥))
 
 -- whether an NLRI of a type may stand in the key of another's: in a Leaf's those of type 1, 2 and 3, in a 0x44's that of 0x43
 unfoldable pub keyable : (type in_key : ℕ) → Bool

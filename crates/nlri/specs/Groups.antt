@@ -1,9 +1,13 @@
 -- The class of a customer group by the standard range (document 01, "Which route a flow takes"; RFC 4607), and how a class is answered.
-use Rattle.std.specs.Prelude.{◌≡◌, ℕ, ◌/◌, ◌≤◌, Bool, List, length, ◌==◌, nat_le, slice_index}
+use Rattle.std.specs.Prelude.{◌≡◌, ℕ, Result, Ok, Err, ◌/◌, ◌≤◌, Bool, List, length, ◌==◌, nat_le, slice_index}
 use Rattle.octets.specs.Numbers.{FLOW}
 use Rattle.octets.specs.Choice.{pick, both}
-use Rattle.octets.specs.Outcome.{Outcome, given, on_outcome, unless, and_then, number_of}
+use Rattle.octets.specs.Outcome.{Outcome, given, refused, on_outcome, unless, and_then, number_of}
+use Rattle.octets.specs.declared.refusal.Refusal.{Refusal}
+use Rattle.octets.specs.Refusals.{refusal_number}
 use Rattle.nlri.specs.declared.group.Group.{Group}
+use Rattle.nlri.specs.declared.group.GroupClass.{GroupClass}
+use Rattle.nlri.specs.declared.group.GroupClass.TheVariants.{Asm, Ssm}
 use Rattle.nlri.specs.Family.{family_bits}
 
 -- the classes: any-source multicast
@@ -49,6 +53,16 @@ class_under bits g =
 -- FAMILY first
 unfoldable pub class_of : ℕ → List ℕ → Outcome ℕ
 class_of afi g = and_then (family_bits afi) (λ bits. class_under bits g)
+
+-- the number of each class
+abbrev pub class_number : GroupClass → ℕ
+class_number Asm = ASM
+class_number Ssm = SSM
+
+-- a class that is told, by its number, or the number that refuses the group
+abbrev pub class_outcome : Result GroupClass Refusal → Outcome ℕ
+class_outcome (Ok class) = given (class_number class)
+class_outcome (Err refusal) = refused (refusal_number refusal)
 
 -- a class as it is answered: on a refusal the number, and class 0
 unfoldable pub group_of : Outcome ℕ → Group

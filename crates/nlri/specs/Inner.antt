@@ -1,14 +1,15 @@
 -- Definitions that mirror the inner functions of reading, and those that lead from them to document 01's in `Reading`; laws tie them together.
-use Rattle.std.specs.Prelude.{◌≡◌, ℕ, ◌+◌, ◌-◌, ◌/◌, ◌<◌, ◌≤◌, Bool, true, false, not, List, [], ◌∷◌, length, drop, ◌==◌, ◌≢◌, nat_le, nat_lt, slice_index, slice_index_or}
+use Rattle.std.specs.Prelude.{◌≡◌, ℕ, Result, Ok, Err, ◌+◌, ◌-◌, ◌/◌, ◌<◌, ◌≤◌, Bool, true, false, not, List, [], ◌∷◌, length, drop, ◌==◌, ◌≢◌, nat_le, nat_lt, slice_index, slice_index_or}
 use Rattle.octets.specs.Numbers.{DONE, SHORT, TYPE, LENGTH, KEY, GROUP}
 use Rattle.octets.specs.Choice.{pick, either, both}
 use Rattle.octets.specs.Outcome.{Outcome, given, refused, unless, and_then, number_of}
 use Rattle.octets.specs.Octets.{part, number_in}
 use Rattle.octets.specs.declared.Span.{Span}
+use Rattle.octets.specs.declared.refusal.Refusal.{Refusal}
+use Rattle.octets.specs.Refusals.{refusal_number}
 use Rattle.fec_elements.specs.Reading.{opaque_start, fec_size}
 use Rattle.nlri.specs.declared.layout.Layout.{Layout}
 use Rattle.nlri.specs.declared.header.Header.{Header}
-use Rattle.nlri.specs.declared.header.Header.TheVariants.{Typed, Unread}
 use Rattle.nlri.specs.Bodies.{FieldKind, source, group, originator, key, fec, bodies, on_body, body_of, has_field}
 use Rattle.nlri.specs.Fields.{Fields}
 use Rattle.nlri.specs.Reading.{field_size, sizes_of, key_field}
@@ -17,15 +18,15 @@ use Rattle.nlri.specs.declared.fields.NlriReading.{NlriReading}
 use Rattle.nlri.specs.Answers.{nlri_struct}
 use Rattle.nlri.specs.Layouts.{laid_layout}
 
--- a route type and a Length, or the refusal's number
-abbrev pub header_outcome : Header → Outcome (ℕ × ℕ)
-header_outcome (Typed type size) = given (type, size)
-header_outcome (Unread number) = refused number
+-- a header that is read: its route type and Length, or the refusal's number
+abbrev pub header_outcome : Result Header Refusal → Outcome (ℕ × ℕ)
+header_outcome (Ok header) = given (header.route_type, header.length)
+header_outcome (Err refusal) = refused (refusal_number refusal)
 
--- the size of a key, header included, by its type and Length; any fault inside it is KEY
-abbrev pub key_outcome : Header → Outcome ℕ
-key_outcome (Typed type size) = given (2 + size)
-key_outcome (Unread number) = refused KEY
+-- a key that is read by its header: its size, header included; any fault inside it is KEY
+abbrev pub key_outcome : Result Header Refusal → Outcome ℕ
+key_outcome (Ok header) = given (2 + header.length)
+key_outcome (Err refusal) = refused KEY
 
 -- a layout by its type, Length and sizes
 unfoldable pub layout_with : (type size source group originator key fec : ℕ) → Layout

@@ -1,17 +1,10 @@
--- What the functions that read by layout answer, by cases, and the layout of what was laid out.
+-- The layout of what was laid out.
 use Rattle.std.specs.Prelude.{ℕ, ◌-◌, List}
-use Rattle.octets.specs.Outcome.{Outcome, given, refused, and_then}
+use Rattle.octets.specs.Outcome.{Outcome, given, and_then}
 use Rattle.nlri.specs.declared.layout.Layout.{Layout}
-use Rattle.nlri.specs.declared.layout.Reading.{Reading}
-use Rattle.nlri.specs.declared.layout.Reading.TheVariants.{Nlri, Refused}
 use Rattle.nlri.specs.Family.{family_bits}
 use Rattle.nlri.specs.Bodies.{source, group, originator, key, fec, field_in}
 use Rattle.nlri.specs.Reading.{Laid, laid_at, accepted_at, accepted_single}
-
--- an NLRI's layout, or the refusal's number
-unfoldable pub reading_of : Reading → Outcome Layout
-reading_of (Nlri layout) = given layout
-reading_of (Refused number) = refused number
 
 -- the sizes that vary, of addresses without their length octet; 0 for a field that the type lacks
 unfoldable pub layout_of : Laid → Layout

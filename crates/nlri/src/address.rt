@@ -81,6 +81,7 @@ impl AddressKind {
     }
 
     // The address family of a root of the kind, as a FEC has it.
+    #[tactic(auto, using(octets::proofs::Tests::tests), unfolding(crate::specs::Family::root_family))]
     pub fn root_family(self) -> u32
         ensures { result ≡ root_family self.bits }
     {

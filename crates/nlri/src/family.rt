@@ -1,36 +1,38 @@
 // Address families: every function below the calls goes by the kind of the family's addresses.
 ghost use Rattle.std.specs.Prelude.{◌≡◌};
-ghost use Rattle.nlri.specs.Family.{family_bits, family_outcome};
+ghost use Rattle.nlri.specs.Family.{FamilyTold, family_bits, family_outcome};
 
 use crate::address::AddressKind;
-use octets::number::FAMILY;
+use octets::refusal::Refusal;
 
-// Address family identifiers.
-#[derive(Clone, Copy)]
-pub struct AddressFamily {}
-
-impl AddressFamily {
-    pub const IPV4: u16 = 1;
-
-    pub const IPV6: u16 = 2;
+// Address families.
+#[derive(Clone, Copy, Debug, PartialEq, Eq)]
+pub enum AddressFamily {
+    Ipv4 = 1,
+    Ipv6 = 2,
 }
 
-// A family by the kind of its addresses, or the refusal's number.
-#[derive(Clone, Copy)]
-pub enum Family {
-    Known(AddressKind),
-    Unknown(u32),
+// By its AFI. FAMILY.
+impl TryFrom<u16> for AddressFamily {
+    type Error = Refusal;
+
+    ghost try_from_gives = { FamilyTold };
+
+    fn try_from(afi: u16) -> Result<AddressFamily, Refusal> {
+        match afi {
+            1 => Ok(AddressFamily::Ipv4),
+            2 => Ok(AddressFamily::Ipv6),
+            _ => Err(Refusal::Family),
+        }
+    }
 }
 
-// The family of an AFI.
-pub fn family_of(afi: u16) -> Family
+// The kind of the addresses of an AFI's family. FAMILY.
+pub fn family_of(afi: u16) -> Result<AddressKind, Refusal>
     ensures { family_outcome result ≡ family_bits afi }
 {
-    if afi == AddressFamily::IPV4 {
-        return Family::Known(AddressKind::ipv4());
+    match AddressFamily::try_from(afi)? {
+        AddressFamily::Ipv4 => Ok(AddressKind::ipv4()),
+        AddressFamily::Ipv6 => Ok(AddressKind::ipv6()),
     }
-    if afi == AddressFamily::IPV6 {
-        return Family::Known(AddressKind::ipv6());
-    }
-    Family::Unknown(FAMILY)
 }

@@ -2,18 +2,18 @@
 ghost use Rattle.std.specs.Prelude.{◌≡◌, ◌+◌, ◌<◌, ◌≤◌, true, false, length};
 ghost use Rattle.octets.specs.Octets.{part};
 ghost use Rattle.octets.specs.Outcome.{refused};
+ghost use Rattle.octets.specs.Refusals.{refusal_number};
 ghost use Rattle.nlri.specs.Reading.{read_nlri};
 ghost use Rattle.nlri.specs.Answers.{address_struct, distinguisher_struct, nlri_struct, nlri_answer};
 ghost use Rattle.nlri.specs.Inner.{with_key, with_fec, with_source_as, distinguisher_at, source_as_at, leaf_layout, fec_layout, mldp_layout, layout_in, KeyStands, FecStands, MldpStands, Stands, fields_at, key_at, fec_in_layout, answer_at, LayoutWithin};
 
 use crate::address::{Address, AddressKind, RouteDistinguisher};
-use crate::family::Family;
 use crate::header::HEADER;
 use crate::layout::Layout;
-use crate::route::RouteType;
-use crate::{family, layout, mldp, read, route};
+use crate::{family, layout, read, route};
 use octets::Span;
-use octets::number::{DONE, FAMILY};
+use octets::number::DONE;
+use octets::refusal::Refusal;
 
 // A field that the route type lacks is zeros in an answer, and is not looked at in an argument.
 #[repr(C)]
@@ -97,11 +97,11 @@ fn nlri_in(layout: Layout, s: &[u8]) -> Nlri
 }
 
 // The answer of a refusal: its number and empty fields.
-fn refusal(number: u32) -> NlriReading
-    ensures { result ≡ nlri_answer (refused number) }
+fn refused(refusal: Refusal) -> NlriReading
+    ensures { result ≡ nlri_answer (refused (refusal_number refusal)) }
 {
     NlriReading {
-        number,
+        number: refusal.number(),
         nlri: Nlri {
             distinguisher: RouteDistinguisher { octets: [0; 8] },
             source: Address::wildcard(),
@@ -161,92 +161,15 @@ fn reading_by(layout: Layout, s: &[u8]) -> NlriReading
     }
 }
 
-// The fields of an NLRI of a type of RFC 7441, by its layout: it has no source and no group.
-fn mldp_nlri_in(layout: Layout, s: &[u8]) -> Nlri
-    requires { LayoutWithin layout s.now × (layout.source ≡ 0) × (layout.group ≡ 0) }
-    ensures { result ≡ nlri_struct (fields_at layout s.now) }
-{
-    let route_type = layout.route_type;
-    let originator = address_at(s, s.len() - layout.originator, layout.originator);
-    let distinguisher = distinguisher_in(route_type, s);
-    Nlri {
-        distinguisher,
-        source: Address::wildcard(),
-        group: Address::wildcard(),
-        originator,
-        source_as: source_as_in(route_type, s),
-        route_type: route_type as u8,
-    }
-}
-
-// What reading an NLRI of type 0x44 answers. Its layout, made here, is numbers that no memory holds.
-fn mldp_leaf_reading(s: &[u8]) -> NlriReading
-    requires { KeyStands s.now × LayoutWithin (leaf_layout 68 s.now) s.now }
-    ensures { result ≡ answer_at (leaf_layout 68 s.now) s.now }
-{
-    let layout = layout::leaf_layout(RouteType::MLDP_LEAF, s);
-    let nlri = mldp_nlri_in(layout, s);
-    NlriReading {
-        number: DONE,
-        nlri,
-        key: key_in(layout),
-        fec: fec_in(layout),
-    }
-}
-
-// The same of a type with a FEC.
-fn fec_reading(route_type: usize, s: &[u8]) -> NlriReading
-    requires { (with_fec route_type ≡ true) × FecStands route_type s.now × LayoutWithin (fec_layout route_type s.now) s.now }
-    ensures { result ≡ answer_at (fec_layout route_type s.now) s.now }
-{
-    let layout = mldp::fec_layout(route_type, s);
-    let nlri = mldp_nlri_in(layout, s);
-    let key = key_in(layout);
-    let start = layout::fec_start(route_type);
-    NlriReading {
-        number: DONE,
-        nlri,
-        key,
-        fec: Span {
-            start,
-            size: layout.fec,
-        },
-    }
-}
-
-// The same of any type of RFC 7441.
-fn mldp_reading(route_type: usize, s: &[u8]) -> NlriReading
-    requires { MldpStands route_type s.now × LayoutWithin (mldp_layout route_type s.now) s.now }
-    ensures { result ≡ answer_at (mldp_layout route_type s.now) s.now }
-{
-    if route_type == RouteType::MLDP_LEAF {
-        return mldp_leaf_reading(s);
-    }
-    fec_reading(route_type, s)
-}
-
-// What reading an accepted single NLRI answers.
-fn accepted_reading(s: &[u8]) -> NlriReading
-    requires { Stands s.now × LayoutWithin (layout_in s.now) s.now }
-    ensures { result ≡ answer_at (layout_in s.now) s.now }
-{
-    let route_type = s[0] as usize;
-    if RouteType::SOURCE_TREE_JOIN < route_type {
-        return mldp_reading(route_type, s);
-    }
-    reading_by(read::layout_in(s), s)
-}
-
 // Reads a single NLRI: FAMILY, SHORT, TYPE, then the body left to right, then LENGTH for octets after it.
 pub fn read_nlri(afi: u16, s: &[u8]) -> NlriReading
     ensures { result ≡ nlri_answer (read_nlri afi s.now) }
 {
-    let Family::Known(kind) = family::family_of(afi) else {
-        return refusal(FAMILY);
+    let Ok(kind) = family::family_of(afi) else {
+        return refused(Refusal::Family);
     };
-    let fault = read::single_fault(kind, s);
-    if fault != DONE {
-        return refusal(fault);
+    match read::check_single(kind, s) {
+        Ok(()) => reading_by(read::layout_in(s), s),
+        Err(refusal) => refused(refusal),
     }
-    accepted_reading(s)
 }

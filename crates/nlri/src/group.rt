@@ -1,12 +1,18 @@
 // The class of a customer group (RFC 4607).
 ghost use Rattle.std.specs.Prelude.{◌≡◌, ◌≤◌, length};
-ghost use Rattle.octets.specs.Outcome.{given, refused};
-ghost use Rattle.nlri.specs.Groups.{multicast, source_specific, is_ssm, class_under, class_of, group_of};
+ghost use Rattle.nlri.specs.Groups.{multicast, source_specific, is_ssm, class_under, class_of, class_outcome, group_of};
 
 use crate::address::AddressKind;
 use crate::family;
-use crate::family::Family;
-use octets::number::{DONE, FLOW};
+use octets::number::DONE;
+use octets::refusal::Refusal;
+
+// Any-source and source-specific multicast.
+#[derive(Clone, Copy, Debug, PartialEq, Eq)]
+pub enum GroupClass {
+    Asm = 1,
+    Ssm = 2,
+}
 
 // The number, and the class, or 0 on a refusal.
 #[repr(C)]
@@ -16,47 +22,37 @@ pub struct Group {
     pub group_class: u32,
 }
 
-impl Group {
-    pub const ASM: u32 = 1;
+impl From<Result<GroupClass, Refusal>> for Group {
+    ghost from_gives = { λ class group. group ≡ group_of (class_outcome class) };
 
-    pub const SSM: u32 = 2;
-
-    // A group of a class.
-    fn given(group_class: u32) -> Group
-        ensures { result ≡ group_of (given group_class) }
-    {
-        Group {
-            number: DONE,
-            group_class,
-        }
-    }
-
-    // A group that is refused.
-    pub fn refused(number: u32) -> Group
-        ensures { result ≡ group_of (refused number) }
-    {
-        Group {
-            number,
-            group_class: 0,
+    fn from(class: Result<GroupClass, Refusal>) -> Group {
+        match class {
+            Ok(class) => Group {
+                number: DONE,
+                group_class: class as u32,
+            },
+            Err(refusal) => Group {
+                number: refusal.number(),
+                group_class: 0,
+            },
         }
     }
 }
 
 // 224.0.0.0/4, FF00::/8
+#[tactic(auto, using(octets::proofs::Tests::flags), unfolding(crate::specs::Groups::multicast))]
 fn is_multicast(kind: AddressKind, group: &[u8]) -> bool
     requires { 4 ≤ length group.now }
     ensures { result ≡ multicast kind.bits group.now }
 {
     if kind.bits == AddressKind::IPV4 {
-        if group[0] < 224 {
-            return false;
-        }
-        return group[0] <= 239;
+        return 224 <= group[0] && group[0] <= 239;
     }
     group[0] == 255
 }
 
 // 232.0.0.0/8, FF3x::/32
+#[tactic(auto, using(octets::proofs::Tests::flags), unfolding(crate::specs::Groups::source_specific))]
 fn is_source_specific(kind: AddressKind, group: &[u8]) -> bool
     requires { 4 ≤ length group.now }
     ensures { result ≡ source_specific kind.bits group.now }
@@ -64,59 +60,46 @@ fn is_source_specific(kind: AddressKind, group: &[u8]) -> bool
     if kind.bits == AddressKind::IPV4 {
         return group[0] == 232;
     }
-    if group[0] != 255 {
-        return false;
-    }
-    if group[1] / 16 != 3 {
-        return false;
-    }
-    if group[2] != 0 {
-        return false;
-    }
-    group[3] == 0
+    group[0] == 255 && group[1] / 16 == 3 && group[2] == 0 && group[3] == 0
 }
 
 // Whether octets of any number are a group of that range.
+#[tactic(auto, using(octets::proofs::Tests::flags), unfolding(crate::specs::Groups::is_ssm))]
 pub fn is_ssm(kind: AddressKind, group: &[u8]) -> bool
     ensures { result ≡ is_ssm kind.bits group.now }
 {
-    if group.len() < 4 {
-        return false;
-    }
-    is_source_specific(kind, group)
+    4 <= group.len() && is_source_specific(kind, group)
 }
 
 // The class of a group under the family of a kind of addresses. FLOW.
-fn class_under(kind: AddressKind, group: &[u8]) -> Group
+fn class_under(kind: AddressKind, group: &[u8]) -> Result<GroupClass, Refusal>
     requires { 32 ≤ kind.bits }
-    ensures { result ≡ group_of (class_under kind.bits group.now) }
+    ensures { class_outcome result ≡ class_under kind.bits group.now }
 {
     if group.len() != kind.octets() {
-        return Group::refused(FLOW);
+        return Err(Refusal::Flow);
     }
     if !is_multicast(kind, group) {
-        return Group::refused(FLOW);
+        return Err(Refusal::Flow);
     }
     if is_source_specific(kind, group) {
-        return Group::given(Group::SSM);
+        return Ok(GroupClass::Ssm);
     }
-    Group::given(Group::ASM)
+    Ok(GroupClass::Asm)
 }
 
 // The class of a group by the standard range. FAMILY, FLOW.
-pub fn group_class(afi: u16, group: &[u8]) -> Group
-    ensures { result ≡ group_of (class_of afi group.now) }
+pub fn group_class(afi: u16, group: &[u8]) -> Result<GroupClass, Refusal>
+    ensures { class_outcome result ≡ class_of afi group.now }
 {
-    match family::family_of(afi) {
-        Family::Unknown(number) => Group::refused(number),
-        Family::Known(kind) => class_in(kind, group),
-    }
+    let kind = family::family_of(afi)?;
+    class_in(kind, group)
 }
 
 // A branch for each family: what is compiled of each tests no family.
-fn class_in(kind: AddressKind, group: &[u8]) -> Group
+fn class_in(kind: AddressKind, group: &[u8]) -> Result<GroupClass, Refusal>
     requires { 32 ≤ kind.bits }
-    ensures { result ≡ group_of (class_under kind.bits group.now) }
+    ensures { class_outcome result ≡ class_under kind.bits group.now }
 {
     if kind.bits == AddressKind::IPV4 {
         return class_under(AddressKind::ipv4(), group);

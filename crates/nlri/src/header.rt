@@ -2,28 +2,32 @@
 ghost use Rattle.std.specs.Prelude.{◌≡◌};
 ghost use Rattle.nlri.specs.Inner.{header_outcome, header_at};
 
-use octets::number::SHORT;
+use octets::refusal::Refusal;
 
-// Route Type and Length.
+// The octets of a header.
 pub const HEADER: usize = 2;
 
-// A route type and a Length with as many octets behind it, or the refusal's number.
+// A route type and a Length with as many octets behind it.
 #[derive(Clone, Copy)]
-pub enum Header {
-    Typed(usize, usize),
-    Unread(u32),
+pub struct Header {
+    pub route_type: usize,
+    pub length: usize,
 }
 
-// Type and Length of the NLRI at the front of `s`. SHORT.
-pub fn read_header(s: &[u8]) -> Header
+// The header of the NLRI at the front of `s`. SHORT.
+#[tactic(auto, using(octets::proofs::Tests::tests), unfolding(crate::specs::Inner::header_at))]
+pub fn read_header(s: &[u8]) -> Result<Header, Refusal>
     ensures { header_outcome result ≡ header_at s.now }
 {
     if s.len() < HEADER {
-        return Header::Unread(SHORT);
+        return Err(Refusal::Short);
     }
     let length = s[1] as usize;
     if s.len() - HEADER < length {
-        return Header::Unread(SHORT);
+        return Err(Refusal::Short);
     }
-    Header::Typed(s[0] as usize, length)
+    Ok(Header {
+        route_type: s[0] as usize,
+        length,
+    })
 }

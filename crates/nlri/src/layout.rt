@@ -39,27 +39,19 @@ impl Layout {
     }
 }
 
-// What reading an NLRI comes to: its layout, or the refusal's number.
-#[derive(Clone, Copy)]
-pub enum Reading {
-    Nlri(Layout),
-    Refused(u32),
-}
-
 // Where the octets of a source begin, behind its length octet: in types 6 and 7 the source AS stands before that.
+#[tactic(auto, using(octets::proofs::Tests::tests), unfolding(crate::specs::Inner::source_start))]
 pub(crate) fn source_start(route_type: usize) -> usize
     ensures { result ≡ source_start route_type }
 {
-    if route_type == RouteType::SHARED_TREE_JOIN {
-        return HEADER + RouteDistinguisher::WITH_SOURCE_AS + 1;
-    }
-    if route_type == RouteType::SOURCE_TREE_JOIN {
+    if route_type == RouteType::SHARED_TREE_JOIN || route_type == RouteType::SOURCE_TREE_JOIN {
         return HEADER + RouteDistinguisher::WITH_SOURCE_AS + 1;
     }
     HEADER + RouteDistinguisher::OCTETS + 1
 }
 
 // Where a FEC starts: in 0x47 behind the source AS.
+#[tactic(auto, using(octets::proofs::Tests::tests), unfolding(crate::specs::Inner::fec_start))]
 pub(crate) fn fec_start(route_type: usize) -> usize
     ensures { result ≡ fec_start route_type }
 {

@@ -16,10 +16,10 @@ mod sure;
 
 pub use address::{Address, AddressKind, RouteDistinguisher};
 pub use body::{is_allowed, is_originator_size};
-pub use family::{AddressFamily, Family, family_of};
+pub use family::{AddressFamily, family_of};
 pub use fields::{Nlri, NlriReading, read_nlri};
-pub use group::{Group, group_class, is_ssm};
+pub use group::{Group, GroupClass, group_class, is_ssm};
 pub use header::{HEADER, Header, read_header};
-pub use layout::{Layout, Reading};
-pub use read::{fast_front_fault, fault_of_type, front_fault, is_s_pmsi, read_front, read_key};
+pub use layout::Layout;
+pub use read::{check_front, check_front_fast, check_of_type, is_s_pmsi, read_front, read_key};
 pub use route::RouteType;

@@ -1,6 +1,7 @@
-// The route types of RFC 7441, read (W-207): bodies with an mLDP FEC element, and the Leaf whose key is such an NLRI. They are judged apart and
-// last, so that those of RFC 6514 need no test for them.
+// The route types of RFC 7441, read (W-207): bodies with an mLDP FEC element, and the Leaf whose key is such an NLRI. They are judged by one
+// call, so that those of RFC 6514 do not pay for the registers and the stack of these.
 ghost use Rattle.std.specs.Prelude.{◌≡◌, ℕ, ◌+◌, ◌<◌, true, List, ◌∷◌, length, ◌≢◌};
+ghost use Rattle.octets.specs.Refusals.{result_number};
 ghost use Rattle.nlri.specs.Bodies.{fec};
 ghost use Rattle.nlri.specs.Reading.{key_field};
 ghost use Rattle.nlri.specs.Inner.{key_outcome, left_fault, body_fault, after_fec, is_mldp, fec_layout, mldp_layout, FecStands, MldpStands};
@@ -11,48 +12,47 @@ use crate::layout::Layout;
 use crate::route::RouteType;
 use crate::{body, header, layout};
 use fec_elements::{Standing, shape};
-use octets::number::{DONE, KEY, LENGTH};
+use octets::refusal::Refusal;
 
 // What the octets that are left behind a FEC are: in 0x43 the originator, else nothing.
-fn fec_end_fault(route_type: usize, left: usize) -> u32
-    ensures { (bits at : ℕ) (s : List ℕ) → length s ≡ at + left → result ≡ left_fault bits route_type (after_fec route_type) at s }
+fn check_fec_end(route_type: usize, left: usize) -> Result<(), Refusal>
+    ensures { (bits at : ℕ) (s : List ℕ) → length s ≡ at + left → result_number result ≡ left_fault bits route_type (after_fec route_type) at s }
 {
     if route_type == RouteType::MLDP_S_PMSI {
         if body::is_originator_size(left) {
-            return DONE;
+            return Ok(());
         }
-        return LENGTH;
+        return Err(Refusal::Length);
     }
     if left == 0 {
-        return DONE;
+        return Ok(());
     }
-    LENGTH
+    Err(Refusal::Length)
 }
 
 // A FEC from `at` on, and what follows it.
-fn fec_fault(kind: AddressKind, route_type: usize, at: usize, s: &[u8]) -> u32
-    ensures { result ≡ left_fault kind.bits route_type (fec ∷ after_fec route_type) at s.now }
+fn check_fec(kind: AddressKind, route_type: usize, at: usize, s: &[u8]) -> Result<(), Refusal>
+    ensures { result_number result ≡ left_fault kind.bits route_type (fec ∷ after_fec route_type) at s.now }
 {
     if s.len() < at {
-        return LENGTH;
+        return Err(Refusal::Length);
     }
     let rest = octets::parts::after(s, at);
-    let fault = fec_elements::fault(Standing::InBody(kind.root_family()), rest);
-    if fault != DONE {
-        return fault;
+    match fec_elements::check(Standing::InBody(kind.root_family()), rest) {
+        Ok(()) => check_fec_end(route_type, rest.len() - shape::fec_size(rest)),
+        Err(refusal) => Err(refusal),
     }
-    fec_end_fault(route_type, rest.len() - shape::fec_size(rest))
 }
 
 // A body with a FEC, behind a route distinguisher and, in 0x47, a source AS.
-fn fec_body_fault(kind: AddressKind, route_type: usize, s: &[u8]) -> u32
+fn check_fec_body(kind: AddressKind, route_type: usize, s: &[u8]) -> Result<(), Refusal>
     requires { (is_mldp route_type ≡ true) × (route_type ≢ 68) }
-    ensures { result ≡ body_fault kind.bits route_type s.now }
+    ensures { result_number result ≡ body_fault kind.bits route_type s.now }
 {
     if route_type == RouteType::MLDP_S_PMSI {
-        return fec_fault(kind, RouteType::MLDP_S_PMSI, RouteDistinguisher::OCTETS, s);
+        return check_fec(kind, RouteType::MLDP_S_PMSI, RouteDistinguisher::OCTETS, s);
     }
-    fec_fault(
+    check_fec(
         kind,
         RouteType::MLDP_SOURCE_TREE_JOIN,
         RouteDistinguisher::WITH_SOURCE_AS,
@@ -60,53 +60,46 @@ fn fec_body_fault(kind: AddressKind, route_type: usize, s: &[u8]) -> u32
     )
 }
 
-// The key of a 0x44 at the front of `s`, a whole NLRI of type 0x43: its type and Length, or a number that refuses it.
-fn read_key(kind: AddressKind, s: &[u8]) -> Header
+// The key of a 0x44 at the front of `s`, a whole NLRI of type 0x43: its header. Any refusal is a fault of the key.
+fn read_key(kind: AddressKind, s: &[u8]) -> Result<Header, Refusal>
     ensures { key_outcome result ≡ key_field kind.bits 68 s.now }
 {
-    match header::read_header(s) {
-        Header::Unread(number) => Header::Unread(number),
-        Header::Typed(route_type, length) => {
-            if route_type != RouteType::MLDP_S_PMSI {
-                return Header::Unread(KEY);
-            }
-            let body = octets::parts::between(s, HEADER, length);
-            let fault = fec_fault(
-                kind,
-                RouteType::MLDP_S_PMSI,
-                RouteDistinguisher::OCTETS,
-                body,
-            );
-            if fault != DONE {
-                return Header::Unread(fault);
-            }
-            Header::Typed(route_type, length)
-        }
+    let header = header::read_header(s)?;
+    if header.route_type != RouteType::MLDP_S_PMSI {
+        return Err(Refusal::Key);
     }
+    let body = octets::parts::between(s, HEADER, header.length);
+    check_fec(
+        kind,
+        RouteType::MLDP_S_PMSI,
+        RouteDistinguisher::OCTETS,
+        body,
+    )?;
+    Ok(header)
 }
 
 // A body of 0x44: such a key, then an originator. Any fault inside the key is KEY.
-fn leaf_body_fault(kind: AddressKind, s: &[u8]) -> u32
-    ensures { result ≡ body_fault kind.bits 68 s.now }
+fn check_leaf_body(kind: AddressKind, s: &[u8]) -> Result<(), Refusal>
+    ensures { result_number result ≡ body_fault kind.bits 68 s.now }
 {
     // a part handed on, so that the slice reaches this function in registers
-    let Header::Typed(_, length) = read_key(kind, &s[0..]) else {
-        return KEY;
+    let Ok(key) = read_key(kind, &s[0..]) else {
+        return Err(Refusal::Key); // whatever the fault
     };
-    body::originator_fault(HEADER + length, s.len())
+    body::check_originator(HEADER + key.length, s.len())
 }
 
 // A body of one of these types.
-pub fn body_fault(kind: AddressKind, route_type: usize, s: &[u8]) -> u32
+pub fn check_body(kind: AddressKind, route_type: usize, s: &[u8]) -> Result<(), Refusal>
     requires { is_mldp route_type ≡ true }
-    ensures { result ≡ body_fault kind.bits route_type s.now }
+    ensures { result_number result ≡ body_fault kind.bits route_type s.now }
 {
     // a part handed on, so that the slice reaches this function in registers
     let body = &s[0..];
     if route_type == RouteType::MLDP_LEAF {
-        return leaf_body_fault(kind, body);
+        return check_leaf_body(kind, body);
     }
-    fec_body_fault(kind, route_type, body)
+    check_fec_body(kind, route_type, body)
 }
 
 // The layout of an NLRI with a FEC, by its Length and the lengths in the FEC.

@@ -1,5 +1,7 @@
 -- What the inner functions of writing put, and how much room it takes.
-use mathlib.Core.Path.{◌≡◌, sym, ◌∙◌, ap, subst}
+use mathlib.Core.Path.{◌≡◌, refl, sym, ◌∙◌, ap, subst}
+use Rattle.std.proofs.Common.{Result, Ok, Err}
+use Rattle.std.specs.Result.{IsErrAnd}
 use mathlib.Core.Bool.{Bool, true, false}
 use mathlib.Core.List.{List, [], ◌∷◌, ◌++◌}
 use Prim.Native.Nat.{ℕ, ◌+◌, ◌*◌, ◌≤◌}
@@ -8,12 +10,14 @@ use lib.ListN.{length, take, length-append}
 use lib.Seq.{take-length}
 use Rattle.octets.specs.Numbers.{DONE}
 use Rattle.octets.specs.Choice.{pick}
-use Rattle.octets.specs.Outcome.{given}
+use Rattle.octets.specs.Outcome.{Outcome, given, refused, on_outcome, number_of}
 use Rattle.octets.specs.Octets.{big_endian}
-use Rattle.octets.specs.Outputs.{Put, Wrote}
+use Rattle.octets.specs.Outputs.{written_of, Put, Wrote}
+use Rattle.octets.specs.Refusals.{refusal_number, written_by}
+use Rattle.octets.specs.declared.refusal.Refusal.{Refusal}
 use Rattle.octets.proofs.Lists.{length-sized, sized-taken}
 use Rattle.octets.proofs.NetworkOrder.{length-big_endian}
-use Rattle.octets.proofs.Outputs.{length-put, put_as, put_then, wrote-put}
+use Rattle.octets.proofs.Outputs.{length-put, put_as, put_then, wrote-put, wrote-refused}
 use Rattle.nlri.specs.declared.address.Address.{Address}
 use Rattle.nlri.specs.declared.fields.Nlri.{Nlri}
 use Rattle.nlri.specs.Fields.{encode_address}
@@ -87,6 +91,16 @@ pub end-most : (originated : Bool) (size : ℕ) → end_size originated size ≤
 unfolding end_size pick
 end-most true size = omega arith
 end-most false size = omega arith
+
+-- a refusal leaves the output
+pub wrote-err : (n : ℕ) (o : Outcome (List ℕ)) (d : List ℕ) → refused n ≡ o → Wrote o d (record { number = n; size = 0 }) d
+unfolding written_of number_of on_outcome
+wrote-err n o d e = wrote-refused n o d _ e refl
+
+-- so does one that is passed on
+pub wrote_passed_on : (r : Result ℕ Refusal) (x : Refusal) (o : Outcome (List ℕ)) (d : List ℕ) → IsErrAnd r (λ y. y ≡ x) → refused (refusal_number x) ≡ o → Wrote o d (written_by r) d
+wrote_passed_on (Ok n) x o d p e = absurd p
+wrote_passed_on (Err y) x o d p e = wrote-err (refusal_number y) o d (ap (λ (z : Refusal). refused (refusal_number z)) p ∙ e)
 
 -- an NLRI put: its header with the front of its body, then the rest
 module _ (type size : ℕ) (front rest d : List ℕ) (p : Putting (front ++ rest) size d) where

@@ -13,5 +13,7 @@ pub mod Orders
 pub mod Zeros
 pub mod OrderRule
 pub mod NumbersRule
+pub mod RefusalsRule
 pub mod Among
 pub mod Chosen
+pub mod Refusals

@@ -1,8 +1,8 @@
 -- Laws of `part`, `placed`, `front` and `sized`.
-use Prim.Native.Nat.{ℕ, zero, suc, ◌+◌, ◌-◌, ◌≤◌, ◌<◌}
+use Prim.Native.Nat.{ℕ, zero, suc, ◌+◌, ◌*◌, ◌-◌, ◌≤◌, ◌<◌}
 use mathlib.Core.Path.{◌≡◌, refl, sym, ap, ap₂, ◌∙◌}
 use mathlib.Core.List.{List, [], ◌∷◌, ◌++◌, append_assoc, append-nil}
-use native.Mathlib.Nat.{zero-add, add-sub_cancel_left}
+use native.Mathlib.Nat.{suc-mul, zero-add, add-sub_cancel_left}
 use native.Mathlib.Omega.{arith}
 use borrow.Author.Tests.{ltb-true, ltb-false}
 use lib.ListN.{length, get_or, take, drop, replicate, length-append, length-take, length-drop, length-replicate, replicate-append-replicate, drop_of_length-le, take-append-drop, get_or-append, get_or-eq_default}
@@ -244,3 +244,7 @@ unfolding zeros
 filled n d s h k e =
     let same : n ≡ length d = omega arith in
     e ∙ ap (λ (x : List ℕ). replicate n 0 ++ x) (drop_of_length-le d h) ∙ append-nil (replicate n 0) ∙ ap (λ (m : ℕ). replicate m 0) same
+
+-- one more of blocks of one size
+pub next-block : (i n : ℕ) → (i + 1) * n ≡ i * n + n
+next-block i n = let e : i + 1 ≡ suc i = omega arith in rw (e, suc-mul) (omega arith)

@@ -18,7 +18,7 @@ use Rattle.octets.proofs.Lists.{length_part, part_then}
 use Rattle.octets.proofs.NetworkOrder.{number-two}
 
 -- the first octet of a part, and the others
-low_part : (s : List ℕ) (at n : ℕ) → at < length s → low_first (part s at (suc n)) ≡ get_or s at 0 + 256 * low_first (part s (at + 1) n)
+pub low_part : (s : List ℕ) (at n : ℕ) → at < length s → low_first (part s at (suc n)) ≡ get_or s at 0 + 256 * low_first (part s (at + 1) n)
 unfolding part low_first
 low_part s at n h = rw (drop-cons s at 0, add-one)
 

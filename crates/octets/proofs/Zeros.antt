@@ -6,10 +6,11 @@ use mathlib.Core.List.{List, [], ◌∷◌, ◌++◌}
 use native.Mathlib.Numerals.{add-one}
 use native.Mathlib.Omega.{arith}
 use lib.Bits.{bit_or, or_add_and, and_le_l, and_le_r}
-use lib.ListN.{length, get_or, take, drop, length-drop, take-append-drop, drop_of_length-le}
+use lib.ListN.{length, get_or, take, drop, length-drop, take-append-drop}
 use lib.Seq.{drop-cons, drop-drop, take_all, take-take, get_or-drop}
 use lib.Dec.{eqb}
 use borrow.Author.Tests.{eqb-true, eq-eqb}
+use Rattle.std.specs.List.{fold, zip}
 use Rattle.octets.specs.Choice.{both}
 use Rattle.octets.specs.Octets.{part}
 use Rattle.octets.specs.Order.{zeros, all_zero}
@@ -65,14 +66,15 @@ or-zero x y =
     test-same _ _ (λ t. let e : bit_or x y ≡ 0 = eqb-true _ _ t in both_true _ _ (eq-eqb x 0 (omega (arith, or_add_and x y, and_le_r x y))) (eq-eqb y 0 (omega (arith, or_add_and x y, and_le_l x y))))
     (λ t. let p = both-held _ _ t in eq-eqb (bit_or x y) 0 (omega (arith, or_add_and x y, eqb-true x 0 p.0, eqb-true y 0 p.1)))
 
--- a pass over octets that puts them together: nothing so far, and zeros left
-module _ (s : List ℕ) (i any : ℕ) where
-  pub zero-next : i < length s → both (eqb any 0) (all_zero (drop i s)) ≡ all_zero s → both (eqb (bit_or any (get_or s i 0)) 0) (all_zero (drop (i + 1) s)) ≡ all_zero s
-  zero-next h p = rw (or-zero any (get_or s i 0)) (both-assoc _ _ _ ∙ ap (both (eqb any 0)) (sym (zero-from s i h)) ∙ p)
+-- octets put together, with what stood before them
+zero-fold-from : (s : List ℕ) (any : ℕ) → eqb (fold bit_or any s) 0 ≡ both (eqb any 0) (all_zero s)
+unfolding all_zero
+zero-fold-from [] any = sym (both-then-true (eqb any 0))
+zero-fold-from (x ∷ s) any = zero-fold-from s (bit_or any x) ∙ ap (λ (b : Bool). both b (all_zero s)) (or-zero any x) ∙ both-assoc (eqb any 0) (eqb x 0) (all_zero s)
 
-  pub zero-ends : length s ≤ i → both (eqb any 0) (all_zero (drop i s)) ≡ all_zero s → eqb any 0 ≡ all_zero s
-  unfolding all_zero
-  zero-ends h p = sym (both-then-true (eqb any 0)) ∙ ap (both (eqb any 0)) (rw (drop_of_length-le s h)) ∙ p
+pub zero-fold : (s : List ℕ) → eqb (fold bit_or 0 s) 0 ≡ all_zero s
+unfolding both
+zero-fold s = zero-fold-from s 0
 
 zero-append : (xs ys : List ℕ) → all_zero (xs ++ ys) ≡ both (all_zero xs) (all_zero ys)
 unfolding all_zero both
@@ -115,8 +117,8 @@ pub zero-last : (r : Bool) (s : List ℕ) (last n i : ℕ) → last + n ≡ leng
 unfolding part
 zero-last r s last n i e k h q = zero-overlap r s last n 0 i e (omega arith) (omega arith) (q ∙ sym (both-then-true _) ∙ ap (both (all_zero (part s last n))) (sym h))
 
--- the same pass over two lists
-both-four : (e x y a b : Bool) → both (both e (both x y)) (both a b) ≡ both e (both (both x a) (both y b))
+-- octets of two lists of one length put together, with what stood before them
+both-four : (e x y a b : Bool) → both (both (both e x) y) (both a b) ≡ both e (both (both x a) (both y b))
 unfolding both
 both-four false x y a b = refl
 both-four true false y a b = refl
@@ -124,13 +126,20 @@ both-four true true false true b = refl
 both-four true true false false b = refl
 both-four true true true a b = refl
 
-module _ (a b : List ℕ) (i any : ℕ) (so_far : both (eqb any 0) (both (all_zero (drop i a)) (all_zero (drop i b))) ≡ both (all_zero a) (all_zero b)) where
-  pub zeros-next : i < length a → i < length b
-      → both (eqb (bit_or any (bit_or (get_or a i 0) (get_or b i 0))) 0) (both (all_zero (drop (i + 1) a)) (all_zero (drop (i + 1) b))) ≡ both (all_zero a) (all_zero b)
-  zeros-next h k =
-      rw (or-zero any (bit_or (get_or a i 0) (get_or b i 0)), or-zero (get_or a i 0) (get_or b i 0))
-      (both-four _ _ _ _ _ ∙ ap₂ (λ (x y : Bool). both (eqb any 0) (both x y)) (sym (zero-from a i h)) (sym (zero-from b i k)) ∙ so_far)
+abbrev pub or_pair : ℕ → (ℕ × ℕ) → ℕ
+or_pair any pair = bit_or (bit_or any pair.0) pair.1
 
-  pub zeros-end : length a ≤ i → length b ≤ i → eqb any 0 ≡ both (all_zero a) (all_zero b)
-  unfolding all_zero both
-  zeros-end h k = sym (both-then-true (eqb any 0)) ∙ ap (both (eqb any 0)) (rw (drop_of_length-le a h, drop_of_length-le b k)) ∙ so_far
+zeros-fold-from : (a b : List ℕ) (any : ℕ) → length a ≡ length b → eqb (fold or_pair any (zip a b)) 0 ≡ both (eqb any 0) (both (all_zero a) (all_zero b))
+unfolding all_zero both
+zeros-fold-from [] [] any h = sym (both-then-true (eqb any 0))
+zeros-fold-from [] (y ∷ b) any h = absurd (omega arith)
+zeros-fold-from (x ∷ a) [] any h = absurd (omega arith)
+zeros-fold-from (x ∷ a) (y ∷ b) any h =
+    let l : length a ≡ length b = omega arith in
+    zeros-fold-from a b (bit_or (bit_or any x) y) l
+    ∙ ap (λ (e : Bool). both e (both (all_zero a) (all_zero b))) (or-zero (bit_or any x) y ∙ ap (λ (e : Bool). both e (eqb y 0)) (or-zero any x))
+    ∙ both-four (eqb any 0) (eqb x 0) (eqb y 0) (all_zero a) (all_zero b)
+
+pub zeros-fold : (a b : List ℕ) → length a ≡ length b → eqb (fold or_pair 0 (zip a b)) 0 ≡ both (all_zero a) (all_zero b)
+unfolding both
+zeros-fold a b h = zeros-fold-from a b 0 h

@@ -8,3 +8,4 @@ pub mod Octets
 pub mod Outputs
 pub mod Order
 pub mod Rules
+pub mod Refusals

@@ -3,14 +3,17 @@
 #![tactic(auto)]
 
 ghost use Rattle.std.specs.Prelude.{◌≡◌};
-ghost use Rattle.octets.specs.Outcome.{refused};
-ghost use Rattle.octets.specs.Outputs.{written_of};
+ghost use Rattle.octets.specs.Refusals.{written_by};
 
 pub mod blocks;
 pub mod number;
 pub mod order;
 pub mod parts;
+pub mod refusal;
 pub mod wide;
+
+use number::DONE;
+use refusal::Refusal;
 
 // A part of a slice: `size` octets from octet `start`.
 #[repr(C)]
@@ -28,11 +31,16 @@ pub struct Written {
     pub size: usize,
 }
 
-impl Written {
-    // The answer of a refusal: its number, and no octets written.
-    pub fn refused(number: u32) -> Written
-        ensures { result ≡ written_of (refused number) }
-    {
-        Written { number, size: 0 }
+impl From<Result<usize, Refusal>> for Written {
+    ghost from_gives = { λ done written. written ≡ written_by done };
+
+    fn from(done: Result<usize, Refusal>) -> Written {
+        match done {
+            Ok(size) => Written { number: DONE, size },
+            Err(refusal) => Written {
+                number: refusal.number(),
+                size: 0,
+            },
+        }
     }
 }

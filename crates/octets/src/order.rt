@@ -1,8 +1,7 @@
 // Equality and order of octets, and zeros: many octets at once, where there are many. Those left over at the end are looked
 // at together with some before them, which are then looked at twice.
 //
-// Each public function hands on parts of its slices and not the slices themselves: the compiler then passes a slice to it by two
-// registers and not by memory.
+// `is_same` and `comes_before` only call what does their work: so the compiler writes the comparison itself into their callers.
 ghost use Rattle.std.specs.Prelude.{◌≡◌, ◌≤◌, min, length};
 ghost use Rattle.octets.specs.Choice.{both};
 ghost use Rattle.octets.specs.Order.{same, before, all_zero};
@@ -10,7 +9,8 @@ ghost use Rattle.octets.specs.Order.{same, before, all_zero};
 use crate::parts::between;
 use crate::wide::{eight, eight_low_first, four_low_first};
 
-// The octets that are compared at once, as one number, and those that are tested for zeros at once.
+// The octets that are compared at once, as one number, and those that are tested for zeros at once. Of n octets, (n - 1) / WORD words
+// stand before the last octet; with the word that ends there they leave nothing out.
 const WORD: usize = 8;
 
 const BLOCK: usize = 64;
@@ -19,7 +19,7 @@ const BLOCK: usize = 64;
 pub fn is_same(a: &[u8], b: &[u8]) -> bool
     ensures { result ≡ same a.now b.now }
 {
-    is_same_by_words(&a[0..], &b[0..])
+    is_same_by_words(a, b)
 }
 
 // Equality, a word at a time; the last word may begin inside the one before it.
@@ -32,18 +32,17 @@ fn is_same_by_words(a: &[u8], b: &[u8]) -> bool
     if a.len() < WORD {
         return is_short_same(a, b);
     }
-    let last = a.len() - WORD;
-    let mut i = 0;
-    while i < last {
-        if eight_low_first(a, i) != eight_low_first(b, i) {
+    for i in 0..(a.len() - 1) / WORD {
+        if eight_low_first(a, i * WORD) != eight_low_first(b, i * WORD) {
             return false;
         }
-        i += WORD;
     }
+    let last = a.len() - WORD;
     eight_low_first(a, last) == eight_low_first(b, last)
 }
 
-// Fewer octets than a word: four, as of an IPv4 address, at once; else one by one.
+// Fewer octets than a word: four, as of an IPv4 address, by one load of each; else one by one, so that no loop is left where the size
+// is known.
 fn is_short_same(a: &[u8], b: &[u8]) -> bool
     requires { length a.now ≡ length b.now }
     ensures { result ≡ same a.now b.now }
@@ -51,12 +50,10 @@ fn is_short_same(a: &[u8], b: &[u8]) -> bool
     if a.len() == 4 {
         return four_low_first(a, 0) == four_low_first(b, 0);
     }
-    let mut i = 0;
-    while i < a.len() {
+    for i in 0..a.len() {
         if a[i] != b[i] {
             return false;
         }
-        i += 1;
     }
     true
 }
@@ -65,25 +62,24 @@ fn is_short_same(a: &[u8], b: &[u8]) -> bool
 pub fn comes_before(a: &[u8], b: &[u8]) -> bool
     ensures { result ≡ before a.now b.now }
 {
-    comes_before_by_words(&a[0..], &b[0..])
+    comes_before_by_words(a, b)
 }
 
 // The order, a word at a time: the first words that differ decide, as big-endian numbers.
 fn comes_before_by_words(a: &[u8], b: &[u8]) -> bool
     ensures { result ≡ before a.now b.now }
 {
-    let size = shorter(a.len(), b.len());
+    let size = a.len().min(b.len());
     if size < WORD {
         return comes_each_before(a, b);
     }
-    let last = size - WORD;
-    let mut i = 0;
-    while i < last {
-        if eight_low_first(a, i) != eight_low_first(b, i) {
-            return eight(a, i) < eight(b, i);
+    for i in 0..(size - 1) / WORD {
+        let at = i * WORD;
+        if eight_low_first(a, at) != eight_low_first(b, at) {
+            return eight(a, at) < eight(b, at);
         }
-        i += WORD;
     }
+    let last = size - WORD;
     let x = eight(a, last);
     let y = eight(b, last);
     if x != y {
@@ -92,29 +88,14 @@ fn comes_before_by_words(a: &[u8], b: &[u8]) -> bool
     a.len() < b.len()
 }
 
-// The lower of two sizes.
-fn shorter(m: usize, n: usize) -> usize
-    ensures { result ≡ min m n }
-{
-    if m < n {
-        return m;
-    }
-    n
-}
-
 // The order, octet by octet.
 fn comes_each_before(a: &[u8], b: &[u8]) -> bool
     ensures { result ≡ before a.now b.now }
 {
-    let mut i = 0;
-    while i < a.len() {
-        if b.len() <= i {
-            return false;
-        }
+    for i in 0..a.len().min(b.len()) {
         if a[i] != b[i] {
             return a[i] < b[i];
         }
-        i += 1;
     }
     a.len() < b.len()
 }
@@ -125,53 +106,36 @@ pub fn rises(a: &[u8], b: &[u8]) -> bool
     requires { (length a.now ≡ length b.now) × (8 ≤ length b.now) }
     ensures { result ≡ before a.now b.now }
 {
-    let last = b.len() - WORD;
-    let mut i = 0;
-    while i < last {
-        if eight_low_first(a, i) != eight_low_first(b, i) {
-            return eight(a, i) < eight(b, i);
+    for i in 0..(b.len() - 1) / WORD {
+        let at = i * WORD;
+        if eight_low_first(a, at) != eight_low_first(b, at) {
+            return eight(a, at) < eight(b, at);
         }
-        i += WORD;
     }
+    let last = b.len() - WORD;
     eight(a, last) < eight(b, last)
 }
 
-// Every octet is zero.
+// Every octet is zero, block by block; the last block may begin inside the one before it.
 pub fn is_zero(s: &[u8]) -> bool
-    ensures { result ≡ all_zero s.now }
-{
-    is_zero_by_blocks(&s[0..])
-}
-
-// Block by block; the last block may begin inside the one before it.
-fn is_zero_by_blocks(s: &[u8]) -> bool
     ensures { result ≡ all_zero s.now }
 {
     if s.len() < BLOCK {
         return is_each_zero(s);
     }
-    let last = s.len() - BLOCK;
-    let mut i = 0;
-    while i < last {
-        if !is_each_zero(between(s, i, BLOCK)) {
+    for i in 0..(s.len() - 1) / BLOCK {
+        if !is_each_zero(between(s, i * BLOCK, BLOCK)) {
             return false;
         }
-        i += BLOCK;
     }
-    is_each_zero(between(s, last, BLOCK))
+    is_each_zero(between(s, s.len() - BLOCK, BLOCK))
 }
 
 // Every octet is looked at, with no early exit: so many octets are tested at once.
 fn is_each_zero(s: &[u8]) -> bool
     ensures { result ≡ all_zero s.now }
 {
-    let mut any = 0;
-    let mut i = 0;
-    while i < s.len() {
-        any |= s[i];
-        i += 1;
-    }
-    any == 0
+    s.iter().fold(0, |any, octet| any | *octet) == 0
 }
 
 // Every octet of two slices of one size is zero. Both are looked at in one pass, with no early exit.
@@ -179,11 +143,5 @@ pub fn are_each_zero(a: &[u8], b: &[u8]) -> bool
     requires { length a.now ≡ length b.now }
     ensures { result ≡ both (all_zero a.now) (all_zero b.now) }
 {
-    let mut any = 0;
-    let mut i = 0;
-    while i < a.len() {
-        any |= a[i] | b[i];
-        i += 1;
-    }
-    any == 0
+    a.iter().zip(b).fold(0, |any, (x, y)| any | *x | *y) == 0
 }

@@ -34,9 +34,7 @@ pub fn place(octets: &[u8], output: &mut [u8], at: usize) -> usize
 pub fn clear(octets: &mut [u8])
     ensures { octets.new ≡ zeros (length octets.old) }
 {
-    let mut at = 0;
-    while at < octets.len() {
-        octets[at] = 0;
-        at += 1;
+    for octet in octets {
+        *octet = 0;
     }
 }

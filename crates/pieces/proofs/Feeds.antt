@@ -1,5 +1,5 @@
 -- What a feed comes to, by its tests in their order.
-use mathlib.Core.Path.{◌≡◌, refl, sym, ◌∙◌, ap}
+use mathlib.Core.Path.{◌≡◌, refl, sym, ◌∙◌, ap, subst}
 use mathlib.Core.Bool.{true, false}
 use mathlib.Core.List.{List, ◌++◌}
 use Prim.Native.Nat.{ℕ, ◌+◌, ◌-◌, ◌≤◌, ◌<◌}
@@ -13,11 +13,16 @@ use mathlib.Core.Logic.{inl, inr, ⊎_elim}
 use Rattle.octets.specs.Octets.{AllOctets, part, placed}
 use Rattle.octets.proofs.Lists.{placed-before, placed_past, part_placed}
 use Rattle.octets.proofs.AllOctets.{octets-take, octets-append}
-use Rattle.octets.proofs.Choice.{tested, pick_true, pick-false, pick-case, either_left, either-false, either-false-left, either-false-right}
+use Rattle.octets.proofs.Choice.{opposite, tested, picked, pick_true, pick-false, pick-case, either_left, either-false, either-false-left, either-false-right}
 use Rattle.runs.specs.Modes.{is_skipped}
+use denote.Enum.Bare.{sameb, same_true}
+use borrow.Author.Rules.{rules}
+use Rattle.pieces.specs.contracts.state.Stage.{the_type}
+use Rattle.pieces.specs.declared.state.Stage.{Stage}
+use Rattle.pieces.specs.declared.state.Stage.TheVariants.{Reading, Stopped, Finished}
 use Rattle.pieces.specs.declared.state.Pieces.{Pieces}
 use Rattle.pieces.specs.declared.feeding.Fed.{Fed}
-use Rattle.pieces.specs.Feeding.{READING, STOPPED, FeedAnswer, passed_of, long_of, counted_of, over_of, size_in, wanted_of, share_of, number_under, kept_of, read_of, skipped_of, stopped_of, judged_of, settled_of, taken_of, read_on_of, feed_of, Within}
+use Rattle.pieces.specs.Feeding.{READING, STOPPED, stage_by, FeedAnswer, passed_of, long_of, counted_of, over_of, size_in, wanted_of, share_of, number_under, kept_of, read_of, skipped_of, stopped_of, judged_of, settled_of, taken_of, read_on_of, feed_of, Within}
 use Rattle.pieces.specs.Rules.PiecesRule.{LentAfter}
 use Rattle.pieces.proofs.Sizes.{size-known, size-least, size-most, length-together, take-together}
 
@@ -40,6 +45,45 @@ module _ (p : Pieces) (size : ℕ) where
       let last = either-false-right _ _ later in
       record { total = ltb-false _ _ (either-false-left _ _ e); count = ltb-false _ _ (either-false-left _ _ later); skipped = ltb-false _ _ (either-false-left _ _ last); kept = ltb-false _ _ (either-false-right _ _ last) }
 
+-- a number by its stage
+module _ (n : ℕ) where
+  pub stage-reading : stage_by n ≡ Reading → n ≡ READING
+  stage-reading e =
+      ⊎_elim (λ a. eqb-true _ _ a.0)
+      (λ b. ⊎_elim (λ d. let no : ◌≡◌ {A = ℕ} 0 1 = cc in absurd (omega arith)) (λ d. let no : ◌≡◌ {A = ℕ} 0 1 = cc in absurd (omega arith)) (picked _ _ _ _ b.1))
+      (picked _ _ _ _ e)
+
+  pub stage-stopped : stage_by n ≡ Stopped → n ≡ STOPPED
+  stage-stopped e =
+      ⊎_elim (λ a. let no : ◌≡◌ {A = ℕ} 0 1 = cc in absurd (omega arith))
+      (λ b. ⊎_elim (λ d. eqb-true _ _ d.0) (λ d. let no : ◌≡◌ {A = ℕ} 0 1 = cc in absurd (omega arith)) (picked _ _ _ _ b.1))
+      (picked _ _ _ _ e)
+
+  pub stage-finished : stage_by n ≡ Finished → STOPPED < n
+  stage-finished e =
+      ⊎_elim (λ a. let no : ◌≡◌ {A = ℕ} 0 1 = cc in absurd (omega arith))
+      (λ b.
+      ⊎_elim (λ d. let no : ◌≡◌ {A = ℕ} 0 1 = cc in absurd (omega arith))
+      (λ d. omega (arith, eqb-false n READING b.0, eqb-false n STOPPED d.0)) (picked _ _ _ _ b.1))
+      (picked _ _ _ _ e)
+
+  pub stage-going : (stage_by n ≡ Finished → ⊥) → n ≤ STOPPED
+  stage-going h =
+      tested (eqb n READING) (λ t. omega (arith, eqb-true n READING t))
+      (λ f. tested (eqb n STOPPED) (λ t. omega (arith, eqb-true n STOPPED t)) (λ g. absurd (h (pick-false _ _ _ f ∙ pick-false _ _ _ g))))
+
+-- stages by the test whether they are one
+pub stage-is : (a b : Stage) → sameb the_type a b ≡ true → a ≡ b
+stage-is a b h = same_true the_type (search rules) a b h
+
+pub stage-other : (a b : Stage) → sameb the_type a b ≡ false → a ≡ b → ⊥
+stage-other a b h e = differs b (subst (λ (x : Stage). sameb the_type x b ≡ false) e h)
+  where
+    differs : (x : Stage) → sameb the_type x x ≡ false → ⊥
+    differs Reading p = absurd (opposite refl p)
+    differs Stopped p = absurd (opposite refl p)
+    differs Finished p = absurd (opposite refl p)
+
 -- a feed in each case
 module _ (p : Pieces) (unfinished piece : List ℕ) where
   pub feed-finished : STOPPED < p.stage → feed_of p unfinished piece ≡ passed_of p unfinished piece
@@ -61,7 +105,7 @@ module _ (p : Pieces) (unfinished piece : List ℕ) where
       feed-counts s = pick-false _ _ _ (le-ltb STOPPED p.stage going) ∙ pick-false _ _ _ o ∙ pick-false _ _ _ (ne_eqb p.stage READING s)
 
 -- how much of the piece is taken
-share-all : (wanted kept size : ℕ) → kept + size < wanted → share_of wanted kept size ≡ size
+pub share-all : (wanted kept size : ℕ) → kept + size < wanted → share_of wanted kept size ≡ size
 unfolding share_of
 share-all wanted kept size h = pick_true _ _ _ (lt-ltb (kept + size) wanted h)
 

@@ -1,51 +1,45 @@
 -- What the functions answer, as the definitions have it.
 use mathlib.Core.Path.{◌≡◌, refl, sym, ◌∙◌, ap}
-use mathlib.Core.Bool.{Bool, true}
+use mathlib.Core.Bool.{Bool, true, false}
 use mathlib.Core.List.{List, ◌++◌}
-use Prim.Native.Nat.{ℕ, ◌+◌, ◌-◌, ◌≤◌, ◌<◌}
+use Prim.Native.Nat.{ℕ, ◌+◌, ◌-◌, ◌≤◌, ◌<◌, min}
 use native.Mathlib.Omega.{arith}
-use borrow.Author.Tests.{lt-ltb, le-ltb}
+use borrow.Author.Tests.{ltb-true, ltb-false, lt-ltb, le-ltb}
 use lib.ListN.{length, get_or, take, get_or-append}
 use lib.Seq.{length-take-le, get_or-take, get_or-append-add}
 use lib.Dec.{ltb}
 use Rattle.octets.specs.Outputs.{Leaves}
 use Rattle.octets.specs.Choice.{either}
 use Rattle.octets.specs.Octets.{part, placed}
-use Rattle.octets.proofs.Choice.{skips, either_left, either-last}
-use Rattle.runs.specs.declared.walking.Walked.{Walked}
+use Rattle.octets.proofs.Choice.{skips, tested, either_left, either_second, either-false}
 use Rattle.pieces.specs.declared.state.Pieces.{Pieces}
 use Rattle.pieces.specs.declared.feeding.Fed.{Fed}
-use Rattle.pieces.specs.Feeding.{FINISHED, answer_at_end, finish_of, FeedAnswer, passed_of, over_of, wanted_of, share_of, number_under, judged_of, settled_of, taken_of, read_on_of}
+use Rattle.pieces.specs.Feeding.{FeedAnswer, passed_of, over_of, wanted_of, share_of, number_under, judged_of, settled_of, taken_of, read_on_of}
 use Rattle.pieces.proofs.Sizes.{length-together, size_few, size-known}
-use Rattle.pieces.proofs.Feeds.{over-total, share-rest}
+use Rattle.pieces.proofs.Feeds.{share-all, share-rest}
 
 -- the test whether a state is over, as the code makes it
-module _ (p : Pieces) (size : ℕ) where
-  pub over-size : 4096 < size → true ≡ over_of p size
-  over-size h = sym (over-total p size (omega arith))
+over-total-by : (total size : ℕ) → either (ltb 4096 size) (ltb (4096 - size) total) ≡ ltb 4096 (total + size)
+over-total-by total size =
+    tested (ltb 4096 size)
+    (λ t. let many : 4096 < size = ltb-true _ _ t in either_left _ _ t ∙ sym (lt-ltb 4096 (total + size) (omega arith)))
+    (λ f.
+    let few : size ≤ 4096 = ltb-false _ _ f in
+    tested (ltb (4096 - size) total)
+    (λ t. let more : 4096 - size < total = ltb-true _ _ t in either_second _ _ t ∙ sym (lt-ltb 4096 (total + size) (omega arith)))
+    (λ g. let less : total ≤ 4096 - size = ltb-false _ _ g in either-false _ _ f g ∙ sym (le-ltb 4096 (total + size) (omega arith))))
 
-  module _ (s : size ≤ 4096) where
-    pub over-sum : 4096 - size < p.total → true ≡ over_of p size
-    over-sum h = sym (over-total p size (omega arith))
+eithers : (a b c d : Bool) → either (either (either a b) c) d ≡ either a (either b (either c d))
+unfolding either
+eithers true b c d = refl
+eithers false true c d = refl
+eithers false false c d = refl
 
-    module _ (h : p.total ≤ 4096 - size) where
-      over-later : (b : Bool) → b ≡ either (ltb 4096 p.walked.count) (either (ltb 4096 p.walked.skipped) (ltb 256 p.kept)) → b ≡ over_of p size
-      unfolding over_of
-      over-later b e = either-last _ _ b (le-ltb 4096 (p.total + size) (omega arith)) e
-
-      pub over-count : 4096 < p.walked.count → true ≡ over_of p size
-      over-count c = over-later true (sym (either_left _ _ (lt-ltb 4096 p.walked.count c)))
-
-      module _ (c : p.walked.count ≤ 4096) where
-        pub over-skipped : 4096 < p.walked.skipped → true ≡ over_of p size
-        over-skipped k = over-later true (either-last _ _ _ (le-ltb 4096 p.walked.count c) (sym (either_left _ _ (lt-ltb 4096 p.walked.skipped k))))
-
-        pub over-kept : p.walked.skipped ≤ 4096 → ltb 256 p.kept ≡ over_of p size
-        over-kept k = over-later _ (either-last _ _ _ (le-ltb 4096 p.walked.count c) (either-last _ _ _ (le-ltb 4096 p.walked.skipped k) refl))
-
--- a reader that is finished, by its answer
-pub finish-as : (p : Pieces) (w : Walked) → w ≡ answer_at_end p → record { walked = w; afi = p.afi; mode = p.mode; stage = FINISHED; total = p.total; kept = p.kept } ≡ finish_of p
-finish-as p w e = ap (λ (x : Walked). record { walked = x; afi = p.afi; mode = p.mode; stage = FINISHED; total = p.total; kept = p.kept }) e
+pub over-by : (p : Pieces) (size : ℕ) (a b c : Bool) → a ≡ either (ltb 4096 size) (ltb (4096 - size) p.total) → b ≡ either a (ltb 4096 p.walked.count) → c ≡ either b (ltb 4096 p.walked.skipped)
+    → either c (ltb 256 p.kept) ≡ over_of p size
+unfolding over_of
+over-by p size a b c is-a is-b is-c =
+    rw (is-c, is-b, is-a, over-total-by p.total size) (eithers _ _ _ _)
 
 -- the size that the kept octets and the piece tell
 module _ (kept : ℕ) (unfinished piece : List ℕ) (room : kept ≤ length unfinished) where
@@ -63,24 +57,19 @@ module _ (kept : ℕ) (unfinished piece : List ℕ) (room : kept ≤ length unfi
       let at : 1 ≡ length (take kept unfinished) + i = omega (arith, length-take-le kept unfinished room) in
       sym (ap (λ (n : ℕ). get_or (take kept unfinished ++ piece) n 0) at ∙ get_or-append-add (take kept unfinished) piece i 0)
 
-  pub want-none : kept ≡ 0 → 2 ≤ kept + length piece → 2 + get_or piece 1 0 ≡ wanted_of kept unfinished piece
-  want-none z h = want-octet (get_or piece 1 0) h (octet-later 1 (omega arith))
+  pub want-later : kept < 2 → 2 ≤ kept + length piece → 2 + get_or piece (1 - kept) 0 ≡ wanted_of kept unfinished piece
+  want-later few h = want-octet (get_or piece (1 - kept) 0) h (octet-later (1 - kept) (omega arith))
 
-  pub want-one : kept ≡ 1 → 2 ≤ kept + length piece → 2 + get_or piece 0 0 ≡ wanted_of kept unfinished piece
-  want-one z h = want-octet (get_or piece 0 0) h (octet-later 0 (omega arith))
-
-  pub want_kept : (kept ≡ 0 → ⊥) → (kept ≡ 1 → ⊥) → 2 + get_or unfinished 1 0 ≡ wanted_of kept unfinished piece
-  want_kept none single =
-      let two : 2 ≤ kept = omega (arith, none, single) in
+  pub want_kept : 2 ≤ kept → 2 + get_or unfinished 1 0 ≡ wanted_of kept unfinished piece
+  want_kept two =
       want-octet (get_or unfinished 1 0) (omega arith)
       (sym (get_or-append (take kept unfinished) piece 0 1 (omega (arith, length-take-le kept unfinished room)) ∙ get_or-take kept unfinished 1 0 (omega arith)))
 
--- a share of a state that keeps more than its NLRI has
-pub share-none : (wanted kept size : ℕ) → wanted < kept → 0 ≡ share_of wanted kept size
-share-none wanted kept size h = sym (share-rest wanted kept size (omega arith) ∙ none)
-  where
-    none : wanted - kept ≡ 0
-    none = omega arith
+-- the share is the lesser of what is wanted and what is there
+pub share-least : (wanted kept size : ℕ) → min (wanted - kept) size ≡ share_of wanted kept size
+share-least wanted kept size =
+    tested (ltb (kept + size) wanted) (λ t. let h : kept + size < wanted = ltb-true _ _ t in omega (arith, share-all wanted kept size h))
+    (λ f. let h : wanted ≤ kept + size = ltb-false _ _ f in omega (arith, share-rest wanted kept size h))
 
 -- what is kept of a piece
 pub keep-front : (kept share : ℕ) (unfinished piece e after : List ℕ) → after ≡ placed kept e unfinished → e ≡ part piece 0 share → after ≡ placed kept (take share piece) unfinished

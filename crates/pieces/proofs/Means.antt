@@ -19,9 +19,8 @@ use Rattle.octets.proofs.Lists.{length-placed, take-placed}
 use Rattle.octets.proofs.AllOctets.{octets-take, octets-drop}
 use Rattle.nlri.specs.Family.{family_bits}
 use Rattle.nlri.specs.Layouts.{layout_at}
-use Rattle.runs.specs.declared.turning.Turn.TheVariants.{Skipped}
 use Rattle.runs.specs.Walking.{walked_with, step_from, read_to, refused_at, NlriRead}
-use Rattle.runs.specs.Modes.{is_skipped, past_nlri, turn_from, walk_by, nlris_by_from, nlris_by}
+use Rattle.runs.specs.Modes.{Skipped, is_skipped, past_nlri, turn_from, walk_by, nlris_by_from, nlris_by}
 use Rattle.runs.specs.Rules.WalkRules.{StepRefusal, bad_family, long, past, front}
 use Rattle.runs.proofs.Steps.{Stops, stops-ended_at, stops-refused_at, step_end, step-octet, step-unaccepted}
 use Rattle.runs.proofs.Turns.{never-skipped, turn-reads, turn-skips, turn-stops, nlris_by_from-read, nlris_by_from-skipped, nlris_by_from-stopped}

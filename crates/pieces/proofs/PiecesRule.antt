@@ -112,8 +112,11 @@ module _ (afi mode n : ℕ) (bad : family_bits afi ≡ refused n) (run : List �
   unchanged : c.pieces ≡ started_as afi mode FINISHED n
   unchanged = refusal.stays ∙ start-refused afi mode n bad
 
+  tells : c.pieces.walked ≡ walked_to n 0 0
+  tells = ap (λ (p : Pieces). p.walked) unchanged
+
   ends : c.pieces.walked ≡ walked_to FAMILY 0 0
-  ends = ap (λ (p : Pieces). p.walked) unchanged ∙ ap (λ (k : ℕ). walked_to k 0 0) (family-refused afi n bad).0
+  ends = tells ∙ ap (λ (k : ℕ). walked_to k 0 0) (family-refused afi n bad).0
 
   finishes : c.pieces.stage ≢ READING
   finishes z = omega (arith, ap (λ (p : Pieces). p.stage) unchanged)
@@ -126,7 +129,7 @@ module _ (afi mode n : ℕ) (bad : family_bits afi ≡ refused n) (run : List �
   unfolding nlris_by
   claims-unknown =
       record {
-        answers = end-stopped c.pieces finishes ∙ ends ∙ walk-family afi mode run n bad;
+        answers = end-stopped c.pieces finishes ∙ tells ∙ walk-family afi mode run n bad;
         gives = λ _.
             let told = never-skipped mode n (λ t. omega (arith, (family-refused afi n bad).0)) (λ g. omega (arith, (family-refused afi n bad).0)) in
             refusal.gave ∙ sym (nlris_by_from-stopped afi run 0 mode _ n (turn-stops afi run 0 mode n (stops-refused_at n 0 (step-family afi run 0 n bad)) told));

@@ -10,6 +10,8 @@ use Rattle.nlri.specs.Layouts.{layout_at}
 use Rattle.runs.specs.declared.walking.Walked.{Walked}
 use Rattle.runs.specs.Walking.{walked_to, walked_with}
 use Rattle.runs.specs.Modes.{is_skipped}
+use Rattle.pieces.specs.declared.state.Stage.{Stage}
+use Rattle.pieces.specs.declared.state.Stage.TheVariants.{Reading, Stopped, Finished}
 use Rattle.pieces.specs.declared.state.Pieces.{Pieces}
 use Rattle.pieces.specs.declared.feeding.Fed.{Fed}
 
@@ -24,6 +26,15 @@ STOPPED = 1
 -- it only repeats its answer; so it does at any greater number
 abbrev pub FINISHED : ℕ
 FINISHED = 2
+
+-- the number of a stage, and the stage of a number
+abbrev pub stage_number : Stage → ℕ
+stage_number Reading = READING
+stage_number Stopped = STOPPED
+stage_number Finished = FINISHED
+
+abbrev pub stage_by : ℕ → Stage
+stage_by number = pick (eqb number READING) Reading (pick (eqb number STOPPED) Stopped Finished)
 
 -- a reader that has taken no octet
 abbrev pub started_as : (afi mode stage number : ℕ) → Pieces
@@ -81,32 +92,22 @@ number_under afi s = number_of (and_then (family_bits afi) (λ bits. layout_at b
 abbrev pub kept_of : Pieces → (share : ℕ) → Fed
 kept_of p share = record { pieces = record { walked = p.walked; afi = p.afi; mode = p.mode; stage = READING; total = p.total + share; kept = p.kept + share }; taken = share; size = 0 }
 
+-- past the end of an NLRI: what is walked then, the stage, and the size of the NLRI if it is given
+abbrev pub past_of : Pieces → Walked → (stage share size : ℕ) → Fed
+past_of p walked stage share size =
+    record { pieces = record { walked = walked; afi = p.afi; mode = p.mode; stage = stage; total = p.total + share; kept = 0 }; taken = share; size = size }
+
 -- the NLRI is whole and read: it is given and counted, and the next one begins after it
 abbrev pub read_of : Pieces → (wanted share : ℕ) → Fed
-read_of p wanted share =
-    record {
-      pieces = record { walked = walked_with DONE (p.walked.count + 1) (p.total + share) p.walked.skipped; afi = p.afi; mode = p.mode; stage = READING; total = p.total + share; kept = 0 };
-      taken = share;
-      size = wanted;
-    }
+read_of p wanted share = past_of p (walked_with DONE (p.walked.count + 1) (p.total + share) p.walked.skipped) READING share wanted
 
 -- the NLRI is whole and skipped: it is counted apart and not given, and the next one begins after it
 abbrev pub skipped_of : Pieces → (share : ℕ) → Fed
-skipped_of p share =
-    record {
-      pieces = record { walked = walked_with DONE p.walked.count (p.total + share) (p.walked.skipped + 1); afi = p.afi; mode = p.mode; stage = READING; total = p.total + share; kept = 0 };
-      taken = share;
-      size = 0;
-    }
+skipped_of p share = past_of p (walked_with DONE p.walked.count (p.total + share) (p.walked.skipped + 1)) READING share 0
 
 -- the NLRI is whole and refused: its number stops the reading where it begins
 abbrev pub stopped_of : Pieces → (number share : ℕ) → Fed
-stopped_of p number share =
-    record {
-      pieces = record { walked = walked_with number p.walked.count p.walked.offset p.walked.skipped; afi = p.afi; mode = p.mode; stage = STOPPED; total = p.total + share; kept = 0 };
-      taken = share;
-      size = 0;
-    }
+stopped_of p number share = past_of p (walked_with number p.walked.count p.walked.offset p.walked.skipped) STOPPED share 0
 
 -- an NLRI that is whole, by its number: it is read; or it is refused, and skipped as the walk of the mode skips it; or it stops the reading
 unfoldable pub judged_of : Pieces → (number wanted share : ℕ) → Fed

@@ -5,6 +5,6 @@ mod feeding;
 mod reading;
 mod state;
 
-pub use feeding::{Fed, feed};
+pub use feeding::Fed;
 pub use reading::{UNFINISHED, UnfinishedNlri};
-pub use state::{Pieces, Stage, finish, start};
+pub use state::{Pieces, Stage};

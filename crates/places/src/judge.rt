@@ -1,78 +1,59 @@
-// Arguments of calls and the routes in places, judged where they stand: the number of the first refusal, or DONE.
+// Arguments of calls and the routes in places, judged where they stand.
 ghost use Rattle.std.specs.Prelude.{◌≡◌, length};
 ghost use Rattle.octets.specs.Numbers.{DONE};
 ghost use Rattle.octets.specs.Outcome.{number_of};
+ghost use Rattle.octets.specs.Refusals.{result_number};
 ghost use Rattle.tunnel.specs.Attribute.{read_attribute};
 ghost use Rattle.routes.specs.Arguments.{read_s_pmsi, read_labelled, read_route};
 ghost use Rattle.routes.specs.Place.{place_sound};
 
-use crate::geometry::{ATTRIBUTE_SIZE, MARK, NLRI_SIZE, ROUTE};
+use crate::sound;
 use nlri::RouteType;
-use octets::number::{DONE, LABEL};
+use octets::refusal::Refusal;
 use tunnel::TunnelType;
 
 // A well-formed S-PMSI NLRI: NLRI reading with no octets after it, then KIND.
-pub fn s_pmsi_fault(afi: u16, nlri: &[u8]) -> u32
-    ensures { result ≡ number_of (read_s_pmsi afi nlri.now) }
+#[tactic(auto, unfolding(routes::specs::Arguments::read_s_pmsi))]
+pub fn check_s_pmsi(afi: u16, nlri: &[u8]) -> Result<(), Refusal>
+    ensures { result_number result ≡ number_of (read_s_pmsi afi nlri.now) }
 {
-    nlri::fault_of_type(afi, RouteType::S_PMSI, nlri)
+    nlri::check_of_type(afi, RouteType::S_PMSI, nlri)
 }
 
-// LABEL, or DONE, for an attribute that reading accepts.
-pub(crate) fn label_fault(attribute: &[u8]) -> u32
+// LABEL, of an attribute that reading accepts.
+pub(crate) fn check_label(attribute: &[u8]) -> Result<(), Refusal>
     requires { number_of (read_attribute attribute.now) ≡ DONE }
-    ensures { result ≡ number_of (read_labelled attribute.now) }
+    ensures { result_number result ≡ number_of (read_labelled attribute.now) }
 {
-    if attribute[1] != TunnelType::BIER {
-        return DONE;
+    if attribute[1] != TunnelType::Bier as u8 {
+        return Ok(());
     }
     if octets::wide::three(attribute, tunnel::LABEL_FIELD) / 16 != 0 {
-        return DONE;
+        return Ok(());
     }
-    LABEL
+    Err(Refusal::Label)
 }
 
 // An attribute that install takes: attribute reading, then LABEL.
-pub fn attribute_fault(attribute: &[u8]) -> u32
-    ensures { result ≡ number_of (read_labelled attribute.now) }
+pub fn check_attribute(attribute: &[u8]) -> Result<(), Refusal>
+    ensures { result_number result ≡ number_of (read_labelled attribute.now) }
 {
-    let fault = tunnel::fault(attribute);
-    if fault != DONE {
-        return fault;
-    }
-    label_fault(attribute)
+    tunnel::check(attribute)?;
+    check_label(attribute)
 }
 
 // A route that install takes, room apart.
-pub fn route_fault(afi: u16, nlri: &[u8], attribute: &[u8]) -> u32
-    ensures { result ≡ number_of (read_route afi nlri.now attribute.now) }
+pub fn check_route(afi: u16, nlri: &[u8], attribute: &[u8]) -> Result<(), Refusal>
+    ensures { result_number result ≡ number_of (read_route afi nlri.now attribute.now) }
 {
-    let fault = s_pmsi_fault(afi, nlri);
-    if fault != DONE {
-        return fault;
-    }
-    attribute_fault(attribute)
+    check_s_pmsi(afi, nlri)?;
+    check_attribute(attribute)
 }
 
-// A place is good by itself: install would take its route, zeros follow, and its mark is 0 or 1. `sound::is_place_sound` tells the same; it
-// is left to its one caller, the loop over a table's places, into which the compiler puts it (DECISIONS, "Who judges a place").
+// A place is good by itself: install would take its route, zeros follow, and its mark is 0 or 1.
 pub fn is_good(afi: u16, place: &[u8]) -> bool
     requires { length place.now ≡ 128 }
     ensures { result ≡ place_sound afi place.now }
 {
-    let nlri_size = place[NLRI_SIZE] as usize;
-    let attribute_size = place[ATTRIBUTE_SIZE] as usize;
-    let end = ROUTE + (nlri_size + attribute_size);
-    if MARK < end {
-        return false;
-    }
-    if 1 < place[MARK] {
-        return false;
-    }
-    let nlri = octets::parts::between(place, ROUTE, nlri_size);
-    let attribute = octets::parts::between(place, ROUTE + nlri_size, attribute_size);
-    if route_fault(afi, nlri, attribute) != DONE {
-        return false;
-    }
-    octets::order::is_zero(octets::parts::after(octets::parts::between(place, 0, MARK), end))
+    sound::is_place_sound(afi, place)
 }

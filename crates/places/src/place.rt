@@ -18,6 +18,7 @@ pub fn place_at(table: &[u8], index: usize) -> &[u8]
 }
 
 // The NLRI in a place.
+#[tactic(auto, unfolding(routes::specs::Place::end_in, routes::specs::Place::route_in, routes::specs::Route::nlri_of))]
 pub fn nlri_in(place: &[u8]) -> &[u8]
     requires { end_in place.now ≤ length place.now }
     ensures { result.now ≡ nlri_of (route_in place.now) }
@@ -26,6 +27,7 @@ pub fn nlri_in(place: &[u8]) -> &[u8]
 }
 
 // The attribute in a place.
+#[tactic(auto, unfolding(routes::specs::Place::end_in, routes::specs::Place::route_in, routes::specs::Route::attribute_of))]
 pub fn attribute_in(place: &[u8]) -> &[u8]
     requires { end_in place.now ≤ length place.now }
     ensures { result.now ≡ attribute_of (route_in place.now) }

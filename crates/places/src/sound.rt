@@ -1,13 +1,16 @@
 // Whether lent memory is a sound table (document 01, "The table memory").
 ghost use Rattle.std.specs.Prelude.{◌≡◌, [], ◌+◌, ◌*◌, ◌≤◌, ◌<◌, length, get_or, drop};
+ghost use Rattle.octets.specs.Choice.{pick};
+ghost use Rattle.octets.specs.Numbers.{DONE, TABLE};
 ghost use Rattle.octets.specs.Order.{all_zero};
+ghost use Rattle.octets.specs.Refusals.{result_number};
 ghost use Rattle.routes.specs.Place.{place_sound};
 ghost use Rattle.routes.specs.Table.{table_size, places_sound, sound_of};
 ghost use Rattle.places.specs.Passing.{rises_at};
 
 use crate::geometry::{ATTRIBUTE_SIZE, HEADER, MARK, MOST_PLACES, NLRI_SIZE, PLACE, ROUTE};
 use crate::{header, judge};
-use octets::number::DONE;
+use octets::refusal::Refusal;
 
 // The octets that are compared at once, as one number.
 const WORD: usize = 8;
@@ -20,50 +23,49 @@ const MIDDLE_BLOCK: usize = 32;
 const SMALL_BLOCK: usize = 16;
 
 // A table's size: 8 octets plus a multiple of 128, 0 to 500 places.
+#[tactic(auto, using(octets::proofs::Tests::flags), unfolding(routes::specs::Table::table_size))]
 pub fn is_table_size(size: usize) -> bool
     ensures { result ≡ table_size size }
 {
-    if size < HEADER {
-        return false;
-    }
-    if (size - HEADER) % PLACE != 0 {
-        return false;
-    }
-    (size - HEADER) / PLACE <= MOST_PLACES
+    HEADER <= size && (size - HEADER) % PLACE == 0 && (size - HEADER) / PLACE <= MOST_PLACES
 }
 
 // The octets from `end` on are zeros, of a place without its mark, by two blocks of one size: its last octets and those that follow the
 // route. They leave nothing out between them, and may overlap.
-fn is_tail_zero_by(block: usize, place: &[u8], end: usize) -> bool
-    requires { (length place.now ≡ 127) × (end + block ≤ 127) × (127 ≤ end + 2 * block) }
+fn is_tail_zero_by<const BLOCK: usize>(place: &[u8], end: usize) -> bool
+    requires { (length place.now ≡ 127) × (end + BLOCK ≤ 127) × (127 ≤ end + 2 * BLOCK) }
     ensures { result ≡ all_zero (drop end place.now) }
 {
     octets::order::are_each_zero(
-        octets::parts::between(place, MARK - block, block),
-        octets::parts::between(place, end, block),
+        octets::parts::between(place, MARK - BLOCK, BLOCK),
+        octets::parts::between(place, end, BLOCK),
     )
 }
 
-// The octets from `end` on are zeros, of a place without its mark, by the largest blocks of a fixed size that fit behind the route.
+// The octets from `end` on are zeros, of a place without its mark, by the largest blocks of a fixed size that fit behind the route. The
+// hint puts it where its caller stands, as that of its caller does.
+#[inline(always)]
 fn is_tail_zero(place: &[u8], end: usize) -> bool
     requires { (length place.now ≡ 127) × (end ≤ 127) }
     ensures { result ≡ all_zero (drop end place.now) }
 {
     if end <= MARK - LARGE_BLOCK {
-        return is_tail_zero_by(LARGE_BLOCK, place, end);
+        return is_tail_zero_by::<LARGE_BLOCK>(place, end);
     }
     if end <= MARK - MIDDLE_BLOCK {
-        return is_tail_zero_by(MIDDLE_BLOCK, place, end);
+        return is_tail_zero_by::<MIDDLE_BLOCK>(place, end);
     }
     if end <= MARK - SMALL_BLOCK {
-        return is_tail_zero_by(SMALL_BLOCK, place, end);
+        return is_tail_zero_by::<SMALL_BLOCK>(place, end);
     }
     octets::order::is_zero(octets::parts::after(place, end))
 }
 
 // A place holds a route that install would accept, then zeros, and 0 or 1 as its mark. Nothing is copied out of it. The attribute's two
-// judges are called one by one: each is small enough that the compiler puts it into the loop over the places.
-fn is_place_sound(afi: u16, place: &[u8]) -> bool
+// judges are called one by one: each is small enough that the compiler puts it into the loop over the places, and the hint puts
+// this function there, though a place is judged alone too (DECISIONS, "Who judges a place").
+#[inline(always)]
+pub(crate) fn is_place_sound(afi: u16, place: &[u8]) -> bool
     requires { length place.now ≡ 128 }
     ensures { result ≡ place_sound afi place.now }
 {
@@ -80,10 +82,10 @@ fn is_place_sound(afi: u16, place: &[u8]) -> bool
         return false;
     }
     let attribute = octets::parts::between(place, ROUTE + nlri_size, attribute_size);
-    if tunnel::fault(attribute) != DONE {
+    if tunnel::check(attribute).is_err() {
         return false;
     }
-    if judge::label_fault(attribute) != DONE {
+    if judge::check_label(attribute).is_err() {
         return false;
     }
     is_tail_zero(octets::parts::between(place, 0, MARK), end)
@@ -114,10 +116,8 @@ fn is_rest_zero(table: &[u8], at: usize) -> bool
     if table.len() - at < WORD {
         return octets::order::is_zero(octets::parts::after(table, at));
     }
-    if !octets::order::is_zero(octets::parts::after(table, at + WORD)) {
-        return false;
-    }
-    octets::wide::eight_low_first(table, at) == 0
+    octets::order::is_zero(octets::parts::after(table, at + WORD))
+        && octets::wide::eight_low_first(table, at) == 0
 }
 
 // The first `count` places are sound, their NLRIs strictly increase, and everything after them is zero.
@@ -154,4 +154,15 @@ pub fn is_sound(table: &[u8]) -> bool
         return false;
     }
     are_places_sound(header::afi_of(table), count, table)
+}
+
+// TABLE, of memory that is no sound table.
+#[tactic(auto, using(octets::proofs::Tests::flags))]
+pub fn check(table: &[u8]) -> Result<(), Refusal>
+    ensures { result_number result ≡ pick (sound_of table.now) DONE TABLE }
+{
+    if !is_sound(table) {
+        return Err(Refusal::Table);
+    }
+    Ok(())
 }

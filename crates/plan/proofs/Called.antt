@@ -7,17 +7,16 @@ use lib.Dec.{leb}
 use borrow.Author.Tests.{leb-true}
 use lib.ListN.{length}
 use Rattle.octets.specs.Numbers.{DONE}
-use Rattle.octets.specs.Choice.{pick, both}
-use Rattle.octets.specs.Outcome.{given, refused, on_outcome, number_of}
+use Rattle.octets.specs.Choice.{both}
+use Rattle.octets.specs.Outcome.{given, refused, number_of}
 use Rattle.octets.proofs.Choice.{tested, both_left}
-use Rattle.octets.proofs.Outcome.{given-unless, and-goes-on, and-stops, refused-of, done-given}
+use Rattle.octets.proofs.Outcome.{given-unless, given-same, and-goes-on, and-stops, refused-of, done-given}
 use Rattle.lists.specs.LentLists.{Item, list_count, whole_list, list_items, read_list}
 use Rattle.lists.proofs.Items.{read-list-given}
-use Rattle.plan.specs.declared.Judged.{Judged}
 use Rattle.plan.specs.Flows.{Vrf, ListedFlow, flows_in}
 use Rattle.plan.specs.Refusing.{read_flows}
 use Rattle.plan.specs.Judging.{accepts_places}
-use Rattle.plan.specs.Calls.{judge_outcome, judged_by, judge_of}
+use Rattle.plan.specs.Calls.{judge_outcome}
 use Rattle.plan.specs.Rules.FlowsRule.{GoodFlows}
 use Rattle.plan.proofs.Reading.{flows-why, why-some, flows-good, long-is}
 
@@ -50,22 +49,19 @@ module _ (afi : ℕ) (vrf : Vrf) (flows : List ℕ) (within : Bool) (fault : ℕ
     pub read-good : GoodFlows afi vrf flows Long (list_items 3 flows)
     read-good = subst (GoodFlows afi vrf flows Long) (read-list-given 3 flows good.0 good.1.taken.read) good.1
 
-module _ (afi : ℕ) (vrf : Vrf) (flows places : List ℕ) (fault : ℕ) (told : fault ≡ number_of (read_flows afi vrf flows (leb (length places) 8192))) where
-  pub judge-refused : (fault ≡ DONE → ⊥) → (r : Judged) → r ≡ judged_by (refused fault) → r ≡ judge_of afi vrf flows places
-  unfolding judge_of judge_outcome
-  judge-refused d r e = e ∙ ap judged_by (and-stops _ _ _ (read-refused afi vrf flows _ fault told d))
+-- flows that were read
+pub read-told : (afi : ℕ) (vrf : Vrf) (flows : List ℕ) (within : Bool) (fs : List ListedFlow) → given fs ≡ read_flows afi vrf flows within → DONE ≡ number_of (read_flows afi vrf flows within)
+unfolding number_of
+read-told afi vrf flows within fs e = ap number_of e
 
-  pub judge-whole : fault ≡ DONE → whole_list 3 flows ≡ true
-  judge-whole d = read_whole afi vrf flows _ fault told d
+pub read-are : (afi : ℕ) (vrf : Vrf) (flows : List ℕ) (within : Bool) (fs : List ListedFlow) → given fs ≡ read_flows afi vrf flows within → fs ≡ flows_in (list_items 3 flows)
+read-are afi vrf flows within fs e = given-same (e ∙ read-flows afi vrf flows within DONE (read-told afi vrf flows within fs e) refl)
 
-  pub judge-done : fault ≡ DONE → (flag : Bool) → flag ≡ accepts_places afi vrf (flows_in (list_items 3 flows)) places → (r : Judged) → r ≡ judged_by (given flag) → r ≡ judge_of afi vrf flows places
-  unfolding judge_of judge_outcome
-  judge-done d flag is r e = e ∙ ap judged_by (and-goes-on _ _ _ _ (read-flows afi vrf flows _ fault told d) (ap given is))
+-- the judge's answer
+pub judge-refused : (afi : ℕ) (vrf : Vrf) (flows places : List ℕ) (n : ℕ) → refused n ≡ read_flows afi vrf flows (leb (length places) 8192) → refused n ≡ judge_outcome afi vrf flows places
+unfolding judge_outcome
+judge-refused afi vrf flows places n e = and-stops _ _ _ (sym e)
 
-pub done-yes : (flag : Bool) → flag ≡ true → record { number = DONE; accepted = 1 } ≡ judged_by (given flag)
-unfolding judged_by on_outcome pick
-done-yes flag h = rw h refl
-
-pub done-no : (flag : Bool) → flag ≡ false → record { number = DONE; accepted = 0 } ≡ judged_by (given flag)
-unfolding judged_by on_outcome pick
-done-no flag h = rw h refl
+pub judge-given : (afi : ℕ) (vrf : Vrf) (flows places : List ℕ) (fs : List ListedFlow) → given fs ≡ read_flows afi vrf flows (leb (length places) 8192) → (flag : Bool) → flag ≡ accepts_places afi vrf fs places → given flag ≡ judge_outcome afi vrf flows places
+unfolding judge_outcome
+judge-given afi vrf flows places fs e flag is = and-goes-on _ _ _ _ (sym e) (ap given is)

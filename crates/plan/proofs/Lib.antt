@@ -9,7 +9,8 @@ pub mod Judges
 pub mod Proposals
 pub mod PlannedNlris
 pub mod Plans
-pub mod Loops
+pub mod Compared
+pub mod Checks
 pub mod Leaders
 pub mod JudgedPlaces
 pub mod PlaceLoops

@@ -1,5 +1,5 @@
 -- The planner's call: the refusals, then the places.
-use Prim.Native.Nat.{ℕ, zero, suc, ◌*◌, ◌/◌, ◌≤◌, ◌<◌}
+use Prim.Native.Nat.{ℕ, ◌*◌, ◌/◌, ◌≤◌, ◌<◌}
 use mathlib.Core.Path.{◌≡◌, refl, sym, ◌∙◌, ap, subst}
 use mathlib.Core.Bool.{true}
 use mathlib.Core.List.{List, []}
@@ -7,14 +7,18 @@ use mathlib.Core.Logic.{⊎_elim}
 use native.Mathlib.Omega.{arith}
 use lib.ListN.{length}
 use borrow.Author.Tests.{le-leb, lt-leb}
+use Rattle.std.proofs.Common.{Result, Ok, Err}
+use Rattle.std.specs.Result.{IsErrAnd}
 use Rattle.octets.specs.Numbers.{DONE, SPACE}
+use Rattle.octets.specs.declared.refusal.Refusal.{Refusal}
+use Rattle.octets.specs.Refusals.{refusal_number}
 use Rattle.octets.specs.Outcome.{Outcome, given, refused, on_outcome, number_of}
-use Rattle.octets.specs.Octets.{placed, front}
+use Rattle.octets.specs.Octets.{front}
 use Rattle.octets.specs.Outputs.{Put, Leaves}
 use Rattle.octets.proofs.Choice.{pick_true, pick-false}
 use Rattle.octets.proofs.Outcome.{and-goes-on, and-stops}
 use Rattle.octets.proofs.Lists.{front-is-placed, empty-list}
-use Rattle.lists.specs.LentLists.{Item, list_count, whole_list, list_items}
+use Rattle.lists.specs.LentLists.{Item, list_count, list_items}
 use Rattle.lists.proofs.Items.{list-items-count}
 use Rattle.nlri.specs.Groups.{Multicast}
 use Rattle.routes.specs.Route.{Route}
@@ -22,20 +26,17 @@ use Rattle.routes.specs.Table.{places_of}
 use Rattle.routes.specs.Rules.ArgumentRules.{FamilySized}
 use Rattle.routes.proofs.Definitions.Bounds.{attribute-size}
 use Rattle.plan.specs.declared.Planned.{Planned}
-use Rattle.plan.specs.Flows.{Vrf, vrf_of, flows_in}
+use Rattle.plan.specs.Flows.{Vrf, ListedFlow, flows_in}
 use Rattle.plan.specs.Commonest.{commonest}
 use Rattle.plan.specs.Planning.{proposal}
 use Rattle.plan.specs.Refusing.{read_flows}
 use Rattle.plan.specs.Calls.{plan_outcome, refused_plan, done_plan, planned_by, plan_of}
 use Rattle.plan.specs.Rules.FlowsRule.{GoodFlows}
-use Rattle.plan.specs.Inner.{VrfSized, AllSized, all_places, RoomFor}
+use Rattle.plan.specs.Inner.{planned_in, VrfSized, AllSized, all_places, RoomFor}
 use Rattle.plan.proofs.Counts.{plan-fits}
 use Rattle.plan.proofs.Items.{list-threes, among-listed, flows-count}
 use Rattle.plan.proofs.OwnPlaces.{all-routes, proposal-places}
-use Rattle.plan.proofs.Called.{Long, read-few, read-refused, read_whole, read-flows, read-good}
-
-pub plan-counted : (end n : ℕ) → n ≡ end / 128 → (routes : ℕ) → end ≡ 128 * routes → record { number = DONE; routes = n } ≡ done_plan routes
-plan-counted end n e routes is = let same : n ≡ routes = omega arith in ap done_plan same
+use Rattle.plan.proofs.Called.{Long, read-few, read-refused, read-flows, read-good}
 
 -- what is left where the outcome is told
 
@@ -55,9 +56,14 @@ none-front : (output : List ℕ) → output ≡ front (places_of []) output
 unfolding front places_of
 none-front output = refl
 
-positive : (n : ℕ) → (n ≡ 0 → ⊥) → 0 < n
-positive zero h = absurd (h refl)
-positive (suc n) h = omega arith
+-- a refusal that is passed on
+pub passed_on-plan : (result : Result ℕ Refusal) (r : Refusal) → IsErrAnd result (λ x. x ≡ r) → planned_in result ≡ refused_plan (refusal_number r)
+passed_on-plan (Ok routes) r h = absurd h
+passed_on-plan (Err x) r h = ap (λ (y : Refusal). refused_plan (refusal_number y)) h
+
+pub refusal-told : (n : ℕ) (o : Outcome (List ListedFlow)) → refused n ≡ o → n ≡ number_of o
+unfolding number_of
+refusal-told n o e = ap number_of e
 
 -- sizes of flows that are not refused
 
@@ -68,7 +74,7 @@ group-most : {afi : ℕ} (x : List ℕ) → Multicast afi x → length x ≤ 16
 group-most x (Multicast.ipv4 l low high) = omega arith
 group-most x (Multicast.ipv6 l h) = omega arith
 
-sizes-known : (afi : ℕ) (vrf : Vrf) (flows : List ℕ) (Long : Type 0) (items : List Item) → GoodFlows afi vrf flows Long items → VrfSized vrf.distinguisher vrf.originator × AllSized items
+sizes-known : (afi : ℕ) (vrf : Vrf) (flows : List ℕ) (Long : Type 0) (items : List Item) → GoodFlows afi vrf flows Long items → VrfSized vrf.distinguisher vrf.originator × AllSized (flows_in items)
 sizes-known afi vrf flows Long items g = (
   record { distinguished = g.sizes.distinguisher; originated = ⊎_elim (λ a. omega arith) (λ a. omega arith) g.sizes.originator },
   λ f m.
@@ -77,65 +83,75 @@ sizes-known afi vrf flows Long items g = (
       record { sourced = family-most f.source (g.sizes.sources _ _ _ l); grouped = group-most f.group (g.sizes.groups _ _ _ l); attributed = attribute-size f.wanted w.fields w.read },
 )
 
-module _ (afi : ℕ) (p o d flows output : List ℕ) (fault : ℕ) (told : fault ≡ number_of (read_flows afi (vrf_of p o d) flows true)) where
-  pub plan-refused : (fault ≡ DONE → ⊥) → (r : Planned) → r ≡ refused_plan fault → Leaves (plan_of afi (vrf_of p o d) flows output) r output
+module _ (afi : ℕ) (vrf : Vrf) (flows output : List ℕ) (fault : ℕ) (told : fault ≡ number_of (read_flows afi vrf flows true)) where
+  pub plan-refused : (fault ≡ DONE → ⊥) → (r : Planned) → r ≡ refused_plan fault → Leaves (plan_of afi vrf flows output) r output
   unfolding plan_outcome
-  plan-refused h r e = plan-by afi (vrf_of p o d) flows output (refused fault) (sym (and-stops _ _ _ (read-refused afi (vrf_of p o d) flows true fault told h))) r output (refused-left fault output r e)
+  plan-refused h r e = plan-by afi vrf flows output (refused fault) (sym (and-stops _ _ _ (read-refused afi vrf flows true fault told h))) r output (refused-left fault output r e)
 
   module _ (none : fault ≡ DONE) (count : ℕ) (counted : count ≡ list_count flows) where
     items-count : length (flows_in (list_items 3 flows)) ≡ count
     items-count = flows-count (list_items 3 flows) ∙ list-items-count 3 flows ∙ sym counted
 
-    pub plan-space : length output < 128 * count → (r : Planned) → r ≡ refused_plan SPACE → Leaves (plan_of afi (vrf_of p o d) flows output) r output
+    pub plan-space : length output < 128 * count → (r : Planned) → r ≡ refused_plan SPACE → Leaves (plan_of afi vrf flows output) r output
     unfolding plan_outcome
     plan-space h r e =
-        plan-by afi (vrf_of p o d) flows output (refused SPACE)
-        (sym (and-goes-on _ _ _ _ (read-flows afi (vrf_of p o d) flows true fault told none) (sym (pick-false _ _ _ (lt-leb (128 * length (flows_in (list_items 3 flows))) (length output) (omega (arith, items-count)))))))
+        plan-by afi vrf flows output (refused SPACE)
+        (sym (and-goes-on _ _ _ _ (read-flows afi vrf flows true fault told none) (sym (pick-false _ _ _ (lt-leb (128 * length (flows_in (list_items 3 flows))) (length output) (omega (arith, items-count)))))))
         r output (refused-left SPACE output r e)
 
     module _ (room : 128 * count ≤ length output) where
       rs : List Route
-      rs = proposal (vrf_of p o d) (flows_in (list_items 3 flows))
+      rs = proposal vrf (flows_in (list_items 3 flows))
 
-      planned : plan_outcome afi (vrf_of p o d) flows output ≡ given rs
+      planned : plan_outcome afi vrf flows output ≡ given rs
       unfolding plan_outcome rs
       planned =
-          sym (and-goes-on _ _ _ _ (read-flows afi (vrf_of p o d) flows true fault told none) (sym (pick_true _ _ _ (le-leb (128 * length (flows_in (list_items 3 flows))) (length output) (omega (arith, items-count))))))
+          sym (and-goes-on _ _ _ _ (read-flows afi vrf flows true fault told none) (sym (pick_true _ _ _ (le-leb (128 * length (flows_in (list_items 3 flows))) (length output) (omega (arith, items-count))))))
 
-      sizes : VrfSized d o × AllSized (list_items 3 flows)
-      sizes = sizes-known afi (vrf_of p o d) flows (Long afi (vrf_of p o d) flows true fault told) (list_items 3 flows) (read-good afi (vrf_of p o d) flows true fault told none)
+      sizes : VrfSized vrf.distinguisher vrf.originator × AllSized (flows_in (list_items 3 flows))
+      sizes = sizes-known afi vrf flows (Long afi vrf flows true fault told) (list_items 3 flows) (read-good afi vrf flows true fault told none)
 
       few : length rs ≤ count
       unfolding rs
-      few = omega (arith, plan-fits (vrf_of p o d) (flows_in (list_items 3 flows)), items-count)
+      few = omega (arith, plan-fits vrf (flows_in (list_items 3 flows)), items-count)
 
       places-length : length (places_of rs) ≡ 128 * length rs
       unfolding rs
-      places-length = proposal-places (vrf_of p o d) (list_items 3 flows) sizes.0 sizes.1
+      places-length = proposal-places vrf (flows_in (list_items 3 flows)) sizes.0 sizes.1
 
-      pub plan-none : count ≡ 0 → (r : Planned) → ((routes : ℕ) → 0 ≡ 128 * routes → r ≡ done_plan routes) → Leaves (plan_of afi (vrf_of p o d) flows output) r output
+      pub plan-none : count ≡ 0 → Leaves (plan_of afi vrf flows output) (done_plan 0) output
       unfolding front
-      plan-none z r e =
+      plan-none z =
           let nothing : rs ≡ [] = empty-list rs (omega (arith, few)) in
-          plan-by afi (vrf_of p o d) flows output (given []) (planned ∙ ap given nothing) r output (given-left [] output r output (e 0 (omega arith)) (none-front output))
+          plan-by afi vrf flows output (given []) (planned ∙ ap given nothing) (done_plan 0) output (given-left [] output (done_plan 0) output refl (none-front output))
 
       module _ (some : count ≡ 0 → ⊥) where
-        are : all_places d o (commonest (flows_in (list_items 3 flows))) (list_items 3 flows) ≡ places_of rs
+        are : all_places vrf.distinguisher vrf.originator (commonest (flows_in (list_items 3 flows))) (flows_in (list_items 3 flows)) ≡ places_of rs
         unfolding rs
-        are = all-routes (vrf_of p o d) (list_items 3 flows) (λ z. some (counted ∙ sym (list-items-count 3 flows) ∙ z))
+        are = all-routes vrf (flows_in (list_items 3 flows)) (λ z. some (sym items-count ∙ z))
 
-        pub plan-requires : ((whole_list 3 flows ≡ true) × (0 < list_count flows)) × ((VrfSized d o × AllSized (list_items 3 flows)) × RoomFor 0 (all_places d o (commonest (flows_in (list_items 3 flows))) (list_items 3 flows)) output)
-        plan-requires =
-            ((read_whole afi (vrf_of p o d) flows true fault told none, positive (list_count flows) (λ z. some (counted ∙ z))), (sizes, rw are (omega (arith, places-length, few))))
+        module _ (fs : List ListedFlow) (read : fs ≡ flows_in (list_items 3 flows)) where
+          pub plan-few : length fs ≤ 64
+          plan-few = omega (arith, ap length read, items-count, counted, read-few afi vrf flows true fault told none)
 
-        module _ (end : ℕ) (after : List ℕ) (put : Put 0 (all_places d o (commonest (flows_in (list_items 3 flows))) (list_items 3 flows)) output end after) where
-          end_is : end ≡ 128 * length rs
-          end_is = omega (arith, put.0, ap length are, places-length)
+          pub plan-sizes : VrfSized vrf.distinguisher vrf.originator × AllSized fs
+          plan-sizes = rw read sizes
 
-          pub plan-small : end ≤ 8192
-          plan-small = omega (arith, end_is, few, read-few afi (vrf_of p o d) flows true fault told none, counted)
+          pub plan-room : RoomFor 0 (all_places vrf.distinguisher vrf.originator (commonest fs) fs) output
+          plan-room = rw (read, are) (omega (arith, places-length, few))
 
-          pub plan-done : (r : Planned) → ((routes : ℕ) → end ≡ 128 * routes → r ≡ done_plan routes) → Leaves (plan_of afi (vrf_of p o d) flows output) r after
-          plan-done r e =
-              plan-by afi (vrf_of p o d) flows output (given rs) planned r after
-              (given-left rs output r after (e (length rs) end_is) (put.1 ∙ ap (λ (s : List ℕ). placed 0 s output) are ∙ sym (front-is-placed (places_of rs) output)))
+          module _ (end : ℕ) (after : List ℕ) (put : Put 0 (all_places vrf.distinguisher vrf.originator (commonest fs) fs) output end after) where
+            all : Put 0 (places_of rs) output end after
+            all = rw (read, are) at put
+
+            end_is : end ≡ 128 * length rs
+            end_is = omega (arith, all.0, places-length)
+
+            pub plan-small : end / 128 < 4294967296
+            plan-small = omega (arith, end_is, few, read-few afi vrf flows true fault told none, counted)
+
+            pub plan-done : Leaves (plan_of afi vrf flows output) (done_plan (end / 128)) after
+            plan-done =
+                let routes : end / 128 ≡ length rs = omega (arith, end_is) in
+                plan-by afi vrf flows output (given rs) planned (done_plan (end / 128)) after
+                (given-left rs output (done_plan (end / 128)) after (ap done_plan routes) (all.1 ∙ sym (front-is-placed (places_of rs) output)))

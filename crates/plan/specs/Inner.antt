@@ -1,73 +1,38 @@
 -- Definitions that mirror the functions; laws tie them to those of the calls.
-use Rattle.std.specs.Prelude.{ℕ, zero, suc, ◌+◌, ◌*◌, ◌≤◌, ◌≡◌, Bool, true, not, List, [], ◌∷◌, ◌++◌, ltb, eqb, length, take, drop}
-use Rattle.octets.specs.Numbers.{DONE, SHORT, LONG, FLOW}
-use Rattle.octets.specs.Outcome.{number_of}
+use Rattle.std.specs.Prelude.{ℕ, zero, suc, ◌+◌, ◌*◌, ◌≤◌, ◌≡◌, Bool, true, not, Option, Result, Ok, Err, List, [], ◌∷◌, ◌++◌, length, take, drop}
+use Rattle.octets.specs.Numbers.{DONE, CONFLICT}
+use Rattle.octets.specs.declared.refusal.Refusal.{Refusal}
+use Rattle.octets.specs.Refusals.{refusal_number, result_number}
 use Rattle.octets.specs.Lists.{Among}
 use Rattle.octets.specs.Choice.{pick, both}
 use Rattle.octets.specs.Order.{same}
-use Rattle.lists.specs.LentLists.{Item, front_item, front_items, whole_item, whole_items, first_item, every_item, some_item, list_count, whole_list, list_items}
-use Rattle.nlri.specs.Family.{is_originator_size}
 use Rattle.nlri.specs.Fields.{encode_address}
-use Rattle.routes.specs.Route.{Route, route, nlri_of, Distinct}
-use Rattle.routes.specs.Query.{Flow, flow_of}
-use Rattle.routes.specs.Arguments.{read_flow}
-use Rattle.routes.specs.Place.{PLACE, route_in, place_of, place_sound}
+use Rattle.nlri.specs.Standing.{standing}
+use Rattle.routes.specs.Route.{route, nlri_of, Distinct}
+use Rattle.routes.specs.Query.{Flow}
+use Rattle.routes.specs.Place.{PLACE, end_in, route_in, place_of, place_sound}
 use Rattle.routes.specs.Table.{routes_from}
 use Rattle.matches.specs.declared.scan.Best.{Best}
-use Rattle.matches.specs.Scanning.{best_in}
-use Rattle.nlri.specs.Standing.{standing}
+use Rattle.matches.specs.Scanning.{best_in, Kept}
 use Rattle.places.specs.Readable.{Readable}
-use Rattle.plan.specs.declared.commonest.Leader.{Leader}
-use Rattle.plan.specs.Flows.{Vrf, ListedFlow, flow_in, flows_in, same_flow, different}
-use Rattle.plan.specs.Commonest.{wanting}
-use Rattle.plan.specs.Refusing.{attribute_fault, label_fault, type_fault, conflicts, flows_fault}
-use Rattle.plan.specs.Judging.{gives, matched, sound_places}
+use Rattle.plan.specs.declared.vrf.Vrf as vrf
+use Rattle.plan.specs.Flows.{Vrf, vrf_of, ListedFlow, is_listed}
+use Rattle.plan.specs.Refusing.{conflicts}
+use Rattle.plan.specs.declared.Planned.{Planned}
+use Rattle.plan.specs.Calls.{refused_plan, done_plan}
+use Rattle.plan.specs.Judging.{matched, sound_places}
 
--- the flow at a cursor
-unfoldable pub flow_at : List ℕ → ListedFlow
-flow_at t = flow_in (front_item 3 t)
+-- the VRF of the code
+abbrev pub vrf_in : vrf.Vrf → Vrf
+vrf_in v = vrf_of v.prefixes.now v.originator.now v.distinguisher.now
 
--- the number of the first flow that is refused
-unfoldable pub fault_in : (ListedFlow → ℕ) → List Item → ℕ
-fault_in fault items = first_item (λ x. not (eqb (fault (flow_in x)) DONE)) (λ x. fault (flow_in x)) DONE items
+-- what a test answers of a flow has this number
+abbrev pub Judges : (ListedFlow → Result Unit Refusal → Type 0) → (fault : ListedFlow → ℕ) → Type 0
+Judges returns fault = (f : ListedFlow) (r : Result Unit Refusal) → returns f r → result_number r ≡ fault f
 
--- FLOW by the sizes of originator and RD
-unfoldable pub vrf_number : (originator distinguisher : List ℕ) → ℕ
-vrf_number originator distinguisher = pick (both (is_originator_size (length originator)) (eqb (length distinguisher) 8)) DONE FLOW
-
--- FLOW by a flow's source and group
-unfoldable pub flow_number : (afi : ℕ) → (prefixes originator : List ℕ) → ListedFlow → ℕ
-flow_number afi prefixes originator f = number_of (read_flow afi (flow_of prefixes originator f.source f.group))
-
--- the tests of a wanted attribute. 0: attribute reading; 1: LABEL after it; else TUNNEL for type 0
-unfoldable pub wanted_fault : (test : ℕ) → ListedFlow → ℕ
-wanted_fault test f = pick (eqb test 0) (attribute_fault f) (pick (eqb test 1) (label_fault f) (type_fault f))
-
--- how two flows may be related. 0: one flow; 1: they want one attribute; else one flow with two attributes
-unfoldable pub related : (relation : ℕ) → ListedFlow → ListedFlow → Bool
-related relation f g =
-    pick (eqb relation 0) (same_flow f g)
-    (pick (eqb relation 1) (same g.wanted f.wanted)
-    (both (same_flow f g) (not (same f.wanted g.wanted))))
-
--- some of the items is so related
-unfoldable pub some_related : (relation : ℕ) → ListedFlow → List Item → Bool
-some_related relation f items = some_item (λ x. related relation f (flow_in x)) items
-
--- a whole item at a cursor, and so many whole items behind it
-pub record Behind (list : List ℕ) (at next left : ℕ) : Type 0 where
-  pub here : whole_item 3 (drop at list) ≡ true
-  pub rest : whole_items 3 left (drop next list) ≡ true
-
--- one flow of the items is listed with two attributes
-unfoldable pub conflicts_in : List Item → Bool
-conflicts_in items = conflicts (flows_in items)
-
--- LONG, SHORT, then the flows
-unfoldable pub flow_list_fault : (afi : ℕ) → Vrf → (flows : List ℕ) → (within : Bool) → ℕ
-flow_list_fault afi vrf flows within =
-    pick (ltb 64 (list_count flows)) LONG
-    (pick within (pick (whole_list 3 flows) (flows_fault afi vrf (flows_in (list_items 3 flows))) SHORT) LONG)
+-- CONFLICT
+unfoldable pub conflict_fault : List ListedFlow → ℕ
+conflict_fault fs = pick (conflicts fs) CONFLICT DONE
 
 -- The judge.
 
@@ -84,47 +49,32 @@ unfoldable pub good_places : (afi : ℕ) → (originator distinguisher : List �
 good_places afi originator distinguisher zero s = true
 good_places afi originator distinguisher (suc count) s = both (own_good_place afi originator distinguisher (take PLACE s)) (good_places afi originator distinguisher count (drop PLACE s))
 
+-- the route in each of so many places ends within it
+unfoldable pub EachEnds : (count : ℕ) → List ℕ → Type 0
+EachEnds zero s = Unit {0}
+EachEnds (suc count) s = (end_in (take PLACE s) ≤ PLACE) × EachEnds count (drop PLACE s)
+
 -- so many sound places, with no NLRI twice
 pub record Proposed (afi : ℕ) (places : List ℕ) (count : ℕ) : Type 0 where
   pub room : PLACE * count ≤ length places
   pub sound : sound_places afi count places ≡ true
   pub distinct : Distinct (routes_from count places)
 
--- the place that a flow's match takes, of so many; tier 0 where it takes none
-pub record BestFor (afi : ℕ) (flow : Flow) (places : List ℕ) (count : ℕ) (best : Best) : Type 0 where
+-- the place that a flow's match takes, of so many
+pub record BestFor (afi : ℕ) (flow : Flow) (places : List ℕ) (count : ℕ) (best : Option Best) : Type 0 where
   pub is : best_in places best ≡ matched afi flow (routes_from count places)
-  pub stands : (best.tier ≡ 0 → ⊥) → Readable places best.start
-
--- it has the wanted attribute
-unfoldable pub served_by : (afi : ℕ) → (prefixes originator : List ℕ) → List Route → ListedFlow → Bool
-served_by afi prefixes originator rs f = gives f.wanted (matched afi (flow_of prefixes originator f.source f.group) rs)
-
--- so it is of every item
-unfoldable pub served_in : (afi : ℕ) → (prefixes originator : List ℕ) → List Route → List Item → Bool
-served_in afi prefixes originator rs items = every_item (λ x. served_by afi prefixes originator rs (flow_in x)) items
-
--- The commonest attribute.
-
--- n, and how many different flows of the items want an attribute
-unfoldable pub wanting_in : List ℕ → ℕ → List Item → ℕ
-wanting_in a n items = n + wanting a (different (flows_in items))
-
--- 1 where a flow counts for an attribute: it wants it, and is not listed again; else 0
-unfoldable pub counts_for : List ℕ → ListedFlow → List Item → ℕ
-counts_for a f rest = pick (same f.wanted a) (pick (some_related 0 f rest) 0 1) 0
-
--- the leader with one more flow
-unfoldable pub better_leader : (list : List ℕ) → Leader → (at next left : ℕ) → Leader
-better_leader list leader at next left =
-    pick (some_related 1 (flow_at (drop at list)) (front_items 3 left (drop next list))) leader
-    (pick (ltb leader.count (wanting_in (flow_at (drop at list)).wanted 0 (list_items 3 list))) (record { count = wanting_in (flow_at (drop at list)).wanted 0 (list_items 3 list); at = at })
-    leader)
+  pub stands : Kept (Readable places) best
 
 -- The planner.
 
+-- what the planner answers: DONE with how many routes, or the refusal's number and 0
+abbrev pub planned_in : Result ℕ Refusal → Planned
+planned_in (Ok routes) = done_plan routes
+planned_in (Err refusal) = refused_plan (refusal_number refusal)
+
 -- a flow has a route of its own: it wants another attribute, and is not listed again
-unfoldable pub stands_out : List ℕ → ListedFlow → List Item → Bool
-stands_out a f rest = both (not (same f.wanted a)) (not (some_related 0 f rest))
+unfoldable pub stands_out : List ℕ → ListedFlow → List ListedFlow → Bool
+stands_out a f rest = both (not (same f.wanted a)) (not (is_listed f rest))
 
 -- source, group and originator as an S-PMSI NLRI has them
 unfoldable pub source_to_originator : (source group originator : List ℕ) → List ℕ
@@ -157,23 +107,23 @@ pub record FlowSized (f : ListedFlow) : Type 0 where
   pub grouped : length f.group ≤ 16
   pub attributed : length f.wanted ≤ 64
 
--- each flow of the items is one
-abbrev pub AllSized : List Item → Type 0
-AllSized items = (f : ListedFlow) → Among f (flows_in items) → FlowSized f
+-- each of these flows is one
+abbrev pub AllSized : List ListedFlow → Type 0
+AllSized fs = (f : ListedFlow) → Among f fs → FlowSized f
 
 module _ (distinguisher originator a : List ℕ) where
   -- the place of a flow's own route, where it has one
-  unfoldable pub own_place : ListedFlow → (rest : List Item) → List ℕ
+  unfoldable pub own_place : ListedFlow → (rest : List ListedFlow) → List ℕ
   own_place f rest = pick (stands_out a f rest) (place_for distinguisher originator f.source f.group f.wanted) []
 
-  -- those of the items' flows, one after the other
-  unfoldable pub own_places : List Item → List ℕ
+  -- those of the flows, one after the other
+  unfoldable pub own_places : List ListedFlow → List ℕ
   own_places [] = []
-  own_places (x ∷ xs) = own_place (flow_in x) xs ++ own_places xs
+  own_places (f ∷ fs) = own_place f fs ++ own_places fs
 
   -- behind that of the wildcards
-  unfoldable pub all_places : List Item → List ℕ
-  all_places items = place_for distinguisher originator [] [] a ++ own_places items
+  unfoldable pub all_places : List ListedFlow → List ℕ
+  all_places fs = place_for distinguisher originator [] [] a ++ own_places fs
 
 -- an output with room for such octets behind an octet
 abbrev pub RoomFor : (at : ℕ) (octets output : List ℕ) → Type 0

@@ -1,98 +1,146 @@
-// The flows of a lent list, where they lie: their fields, and how two of them are related.
-ghost use Rattle.std.specs.Prelude.{◌≡◌, true, drop};
-ghost use Rattle.lists.specs.LentLists.{whole_item, front_items};
-ghost use Rattle.plan.specs.Flows.{same_flow};
-ghost use Rattle.plan.specs.Inner.{flow_at, related, some_related, Behind};
+// The flows of a lent list, where they lie.
+ghost use Rattle.std.specs.Prelude.{◌≡◌, true, not};
+ghost use Rattle.octets.specs.Choice.{both};
+ghost use Rattle.octets.specs.Order.{same};
+ghost use Rattle.lists.specs.LentLists.{whole_list, list_items};
+ghost use Rattle.plan.specs.Flows.{flows_in, same_flow, is_listed};
+ghost use Rattle.plan.specs.Commonest.{is_wanted};
+ghost use Rattle.plan.specs.Refusing.{clashes};
 
 use crate::FIELDS;
+use lists::item::{Item, Items};
 use octets::order;
+use std::marker::Model;
 
-// How two flows may be related: one flow; flows that want one attribute; one flow with two attributes.
-pub(crate) const SAME_FLOW: u32 = 0;
-
-pub(crate) const SAME_WANTED: u32 = 1;
-
-pub(crate) const CLASH: u32 = 2;
-
-// The source of the flow at a cursor.
-pub(crate) fn source_at(flows: &[u8], at: usize) -> &[u8]
-    requires { whole_item 3 (drop at flows.now) ≡ true }
-    ensures { result.now ≡ (flow_at (drop at flows.now)).source }
-{
-    lists::item_field(flows, at, 0)
+// A flow, seen as its source, its group and the attribute wanted for it.
+#[derive(Drop)]
+pub struct Flow<'a> {
+    item: Item<'a, FIELDS>,
 }
 
-// Its group.
-pub(crate) fn group_at(flows: &[u8], at: usize) -> &[u8]
-    requires { whole_item 3 (drop at flows.now) ≡ true }
-    ensures { result.now ≡ (flow_at (drop at flows.now)).group }
-{
-    lists::item_field(flows, at, 1)
+impl<'a> Model for Flow<'a> {
+    ghost use Rattle.plan.specs.Flows.{ListedFlow, flow_in};
+
+    ghost Value = { ListedFlow };
+
+    ghost view = { λ flow. flow_in flow.item };
 }
 
-// The attribute wanted for it.
-pub(crate) fn wanted_at(flows: &[u8], at: usize) -> &[u8]
-    requires { whole_item 3 (drop at flows.now) ≡ true }
-    ensures { result.now ≡ (flow_at (drop at flows.now)).wanted }
-{
-    lists::item_field(flows, at, 2)
-}
-
-// One flow: the same source and group.
-fn is_same_flow(flows: &[u8], at: usize, other: usize) -> bool
-    requires { (whole_item 3 (drop at flows.now) ≡ true) × (whole_item 3 (drop other flows.now) ≡ true) }
-    ensures { result ≡ same_flow (flow_at (drop at flows.now)) (flow_at (drop other flows.now)) }
-{
-    if !order::is_same(source_at(flows, at), source_at(flows, other)) {
-        return false;
+#[tactic(auto, unfolding(crate::specs::Flows::flow_in))]
+impl<'a> Flow<'a> {
+    pub(crate) fn source(&self) -> &'a [u8]
+        ensures { result.now ≡ self.now.source }
+    {
+        self.item.field(0)
     }
-    order::is_same(group_at(flows, at), group_at(flows, other))
+
+    pub(crate) fn group(&self) -> &'a [u8]
+        ensures { result.now ≡ self.now.group }
+    {
+        self.item.field(1)
+    }
+
+    // The attribute wanted for it.
+    pub(crate) fn wanted(&self) -> &'a [u8]
+        ensures { result.now ≡ self.now.wanted }
+    {
+        self.item.field(2)
+    }
 }
 
-// One flow with two attributes.
-fn is_clash(flows: &[u8], at: usize, other: usize) -> bool
-    requires { (whole_item 3 (drop at flows.now) ≡ true) × (whole_item 3 (drop other flows.now) ≡ true) }
-    ensures { result ≡ related 2 (flow_at (drop at flows.now)) (flow_at (drop other flows.now)) }
-{
-    if !is_same_flow(flows, at, other) {
-        return false;
+impl<'a> Flow<'a> {
+    // One flow: the same source and group.
+    #[tactic(auto, unfolding(crate::specs::Flows::same_flow))]
+    fn is_same(&self, other: &Flow<'_>) -> bool
+        ensures { result ≡ same_flow self.now other.now }
+    {
+        order::is_same(self.source(), other.source()) && order::is_same(self.group(), other.group())
     }
-    !order::is_same(wanted_at(flows, at), wanted_at(flows, other))
+
+    // It wants an attribute.
+    pub(crate) fn wants(&self, wanted: &[u8]) -> bool
+        ensures { result ≡ same self.now.wanted wanted.now }
+    {
+        order::is_same(self.wanted(), wanted)
+    }
+
+    // One flow with two attributes.
+    fn clashes_with(&self, other: &Flow<'_>) -> bool
+        ensures { result ≡ both (same_flow self.now other.now) (not (same self.now.wanted other.now.wanted)) }
+    {
+        self.is_same(other) && !self.wants(other.wanted())
+    }
 }
 
-// How two flows of the list are related.
-fn is_related(relation: u32, flows: &[u8], at: usize, other: usize) -> bool
-    requires { (whole_item 3 (drop at flows.now) ≡ true) × (whole_item 3 (drop other flows.now) ≡ true) }
-    ensures { result ≡ related relation (flow_at (drop at flows.now)) (flow_at (drop other flows.now)) }
-{
-    if relation == SAME_FLOW {
-        return is_same_flow(flows, at, other);
-    }
-    if relation == SAME_WANTED {
-        return order::is_same(wanted_at(flows, other), wanted_at(flows, at));
-    }
-    is_clash(flows, at, other)
+// The flows of a list that are left.
+#[derive(Drop)]
+pub struct Flows<'a> {
+    items: Items<'a, FIELDS>,
 }
 
-// Some of `left` flows from `next` on is so related to the one at a cursor.
-pub(crate) fn is_some_related(
-    relation: u32,
-    flows: &[u8],
-    at: usize,
-    next: usize,
-    left: usize,
-) -> bool
-    requires { Behind flows.now at next left }
-    ensures { result ≡ some_related relation (flow_at (drop at flows.now)) (front_items 3 left (drop next flows.now)) }
-{
-    let mut other = next;
-    let mut others_left = left;
-    while 0 < others_left {
-        if is_related(relation, flows, at, other) {
-            return true;
+impl<'a> Model for Flows<'a> {
+    ghost use Rattle.std.specs.Prelude.{List};
+    ghost use Rattle.plan.specs.Flows.{ListedFlow, flows_in};
+
+    ghost Value = { List ListedFlow };
+
+    ghost view = { λ flows. flows_in flows.items };
+}
+
+impl<'a> Flows<'a> {
+    // The flows of a whole list.
+    pub(crate) fn of(list: &'a [u8]) -> Flows<'a>
+        requires { whole_list 3 list.now ≡ true }
+        ensures { result ≡ flows_in (list_items 3 list.now) }
+    {
+        Flows {
+            items: lists::items_of(list),
         }
-        other = lists::after_item(flows, other, FIELDS);
-        others_left -= 1;
     }
-    false
+
+    // The same flows once more.
+    pub(crate) fn again(&self) -> Flows<'a>
+        ensures { result ≡ self.now }
+    {
+        Flows {
+            items: self.items.again(),
+        }
+    }
+
+    // One of them is this flow.
+    pub(crate) fn have(&mut self, flow: &Flow<'_>) -> bool
+        ensures { result ≡ is_listed flow.now self.old }
+    {
+        self.any(|other| flow.is_same(&other))
+    }
+
+    // One of them wants an attribute.
+    pub(crate) fn want(&mut self, wanted: &[u8]) -> bool
+        ensures { result ≡ is_wanted wanted.now self.old }
+    {
+        self.any(|flow| flow.wants(wanted))
+    }
+
+    // One of them is this flow with another attribute.
+    pub(crate) fn clash_with(&mut self, flow: &Flow<'_>) -> bool
+        ensures { result ≡ clashes flow.now self.old }
+    {
+        self.any(|other| flow.clashes_with(&other))
+    }
+}
+
+impl<'a> Iterator for Flows<'a> {
+    ghost use Rattle.std.specs.Iterator.{YieldsFirst, item_count};
+
+    type Item = Flow<'a>;
+
+    ghost next_gives = { YieldsFirst (λ flows. flows) };
+
+    ghost remaining = { item_count (λ flows. flows) };
+
+    #[tactic(auto, unfolding(crate::specs::Flows::flows_in))]
+    fn next(&mut self) -> Option<Flow<'a>> {
+        let item = self.items.next()?;
+        Some(Flow { item })
+    }
 }

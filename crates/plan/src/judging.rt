@@ -1,41 +1,46 @@
 // The call that judges proposed routes.
 ghost use Rattle.std.specs.Prelude.{◌≡◌};
-ghost use Rattle.octets.specs.Outcome.{given, refused};
+ghost use Rattle.octets.specs.Refusals.{outcome_in};
 ghost use Rattle.plan.specs.Flows.{vrf_of};
-ghost use Rattle.plan.specs.Calls.{judged_by, judge_of};
+ghost use Rattle.plan.specs.Calls.{judge_outcome, judged_by, judge_of};
+ghost use Rattle.plan.specs.Inner.{vrf_in};
 
+use crate::vrf::Vrf;
 use crate::{Judged, proposal, refusals};
 use octets::number::DONE;
+use octets::refusal::Refusal;
 
 // The most octets of proposed places.
 const MOST_OCTETS: usize = 8192;
 
-impl Judged {
-    // A refusal's number, and 0.
-    fn refused(number: u32) -> Judged
-        ensures { result ≡ judged_by (refused number) }
-    {
-        Judged {
-            number,
-            accepted: 0,
-        }
-    }
+impl From<Result<bool, Refusal>> for Judged {
+    ghost from_gives = { λ is_accepted judged. judged ≡ judged_by (outcome_in is_accepted) };
 
-    // DONE with 1 or 0.
-    fn done(is_accepted: bool) -> Judged
-        ensures { result ≡ judged_by (given is_accepted) }
-    {
-        if is_accepted {
-            return Judged {
+    #[tactic(auto, unfolding(crate::specs::Calls::judged_by, octets::specs::Outcome::on_outcome, octets::specs::Choice::pick))]
+    fn from(is_accepted: Result<bool, Refusal>) -> Judged {
+        match is_accepted {
+            Ok(true) => Judged {
                 number: DONE,
                 accepted: 1,
-            };
-        }
-        Judged {
-            number: DONE,
-            accepted: 0,
+            },
+            Ok(false) => Judged {
+                number: DONE,
+                accepted: 0,
+            },
+            Err(refusal) => Judged {
+                number: refusal.number(),
+                accepted: 0,
+            },
         }
     }
+}
+
+// Whether proposed places are accepted, for flows that are lent.
+fn is_accepted(vrf: &Vrf<'_>, flows: &[u8], places: &[u8]) -> Result<bool, Refusal>
+    ensures { outcome_in result ≡ judge_outcome vrf.now.afi (vrf_in vrf.now) flows.now places.now }
+{
+    let flows = refusals::read_flows(vrf, flows, places.len() <= MOST_OCTETS)?;
+    Ok(proposal::is_accepted(vrf, &flows, places))
 }
 
 // Whether routes proposed as table places are accepted: every one has that originator and RD, no NLRI repeats, and each flow's match over
@@ -50,16 +55,11 @@ pub fn judge(
 ) -> Judged
     ensures { result ≡ judge_of afi (vrf_of prefixes.now originator.now distinguisher.now) flows.now places.now }
 {
-    let fault = refusals::flows_fault(
+    let vrf = Vrf {
         afi,
         prefixes,
         originator,
         distinguisher,
-        flows,
-        places.len() <= MOST_OCTETS,
-    );
-    if fault != DONE {
-        return Judged::refused(fault);
-    }
-    Judged::done(proposal::is_accepted(afi, prefixes, originator, distinguisher, flows, places))
+    };
+    Judged::from(is_accepted(&vrf, flows, places))
 }

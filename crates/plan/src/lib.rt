@@ -8,9 +8,9 @@ mod judging;
 mod planning;
 mod proposal;
 mod refusals;
+mod vrf;
 mod writing;
 
-pub use commonest::Leader;
 pub use judging::judge;
 pub use planning::plan;
 

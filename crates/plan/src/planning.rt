@@ -1,136 +1,107 @@
 // The call that plans: a (C-*,C-*) route with the commonest attribute, and a (C-S,C-G) route for each different flow that wants another.
-ghost use Rattle.std.specs.Prelude.{◌≡◌, true, ℕ, ◌*◌, ◌≤◌, ◌<◌, drop};
+ghost use Rattle.std.specs.Prelude.{◌≡◌, ◌≤◌, length};
 ghost use Rattle.octets.specs.Outputs.{Put, Leaves};
-ghost use Rattle.lists.specs.LentLists.{list_count, whole_item, whole_list, front_items, list_items};
-ghost use Rattle.plan.specs.Flows.{vrf_of, flows_in};
+ghost use Rattle.plan.specs.Flows.{vrf_of};
 ghost use Rattle.plan.specs.Commonest.{commonest};
-ghost use Rattle.plan.specs.Calls.{refused_plan, done_plan, plan_of};
-ghost use Rattle.plan.specs.Inner.{flow_at, Behind, stands_out, VrfSized, FlowSized, AllSized, own_place, own_places, all_places, RoomFor};
+ghost use Rattle.plan.specs.Calls.{plan_of};
+ghost use Rattle.plan.specs.Inner.{vrf_in, planned_in, stands_out, VrfSized, FlowSized, AllSized, own_place, own_places, all_places, RoomFor};
 
-use crate::flows::SAME_FLOW;
-use crate::{FIELDS, Planned, commonest, flows, refusals, writing};
-use lists::FIRST;
-use octets::number::{DONE, SPACE};
-use octets::{order, parts};
+use crate::flows::{Flow, Flows};
+use crate::vrf::Vrf;
+use crate::{Planned, commonest, refusals, writing};
+use octets::number::DONE;
+use octets::refusal::Refusal;
 use places::geometry::PLACE;
 
-impl Planned {
-    // A refusal's number, and 0.
-    fn refused(number: u32) -> Planned
-        ensures { result ≡ refused_plan number }
-    {
-        Planned { number, routes: 0 }
-    }
+impl From<Result<u32, Refusal>> for Planned {
+    ghost from_gives = { λ routes planned. planned ≡ planned_in routes };
 
-    // DONE with how many places end there.
-    fn done(end: usize) -> Planned
-        requires { end ≤ 8192 }
-        ensures { (routes : ℕ) → end ≡ 128 * routes → result ≡ done_plan routes }
-    {
-        Planned {
-            number: DONE,
-            routes: (end / PLACE) as u32,
+    fn from(routes: Result<u32, Refusal>) -> Planned {
+        match routes {
+            Ok(routes) => Planned {
+                number: DONE,
+                routes,
+            },
+            Err(refusal) => Planned {
+                number: refusal.number(),
+                routes: 0,
+            },
         }
     }
 }
 
-// The flow at `at` has a route of its own: it wants another attribute than the one at `led`, and is not listed again behind.
-fn stands_out(flows: &[u8], led: usize, at: usize, next: usize, left: usize) -> bool
-    requires { Behind flows.now at next left × (whole_item 3 (drop led flows.now) ≡ true) }
-    ensures { result ≡ stands_out (flow_at (drop led flows.now)).wanted (flow_at (drop at flows.now)) (front_items 3 left (drop next flows.now)) }
+// A flow has a place of its own: it wants another attribute than the commonest, and is not listed again behind.
+fn stands_out(commonest: &[u8], flow: &Flow<'_>, behind: &Flows<'_>) -> bool
+    ensures { result ≡ stands_out commonest.now flow.now behind.now }
 {
-    if order::is_same(flows::wanted_at(flows, at), flows::wanted_at(flows, led)) {
-        return false;
-    }
-    !flows::is_some_related(SAME_FLOW, flows, at, next, left)
+    !flow.wants(commonest) && !behind.again().have(flow)
 }
 
-// Its place from `end` on, where it has one. Where the next one starts.
+// Its place from `at` on, where it has one. Where the next one starts.
 fn put_own(
-    flows: &[u8],
-    led: usize,
-    at: usize,
-    next: usize,
-    left: usize,
-    distinguisher: &[u8],
-    originator: &[u8],
+    vrf: &Vrf<'_>,
+    commonest: &[u8],
+    flow: &Flow<'_>,
+    behind: &Flows<'_>,
     output: &mut [u8],
-    end: usize,
+    at: usize,
 ) -> usize
-    requires behind { Behind flows.now at next left × (whole_item 3 (drop led flows.now) ≡ true) }
-    requires vrf_sized { VrfSized distinguisher.now originator.now × FlowSized (flow_at (drop at flows.now)) }
-    requires room_for { RoomFor end (own_place distinguisher.now originator.now (flow_at (drop led flows.now)).wanted (flow_at (drop at flows.now)) (front_items 3 left (drop next flows.now))) output.old }
-    ensures { Put end (own_place distinguisher.now originator.now (flow_at (drop led flows.now)).wanted (flow_at (drop at flows.now)) (front_items 3 left (drop next flows.now))) output.old result output.new }
+    requires sized { VrfSized vrf.now.distinguisher.now vrf.now.originator.now × FlowSized flow.now }
+    requires room { RoomFor at (own_place vrf.now.distinguisher.now vrf.now.originator.now commonest.now flow.now behind.now) output.old }
+    ensures { Put at (own_place vrf.now.distinguisher.now vrf.now.originator.now commonest.now flow.now behind.now) output.old result output.new }
 {
-    if !stands_out(flows, led, at, next, left) {
-        return end;
+    if !stands_out(commonest, flow, behind) {
+        return at;
     }
-    writing::put_place(
-        output,
-        end,
-        distinguisher,
-        originator,
-        flows::source_at(flows, at),
-        flows::group_at(flows, at),
-        flows::wanted_at(flows, at),
-    )
+    writing::put_place(vrf, flow.source(), flow.group(), flow.wanted(), output, at)
 }
 
 // The places of all flows that have one, from `start` on. Where they end.
 fn put_all_own(
-    flows: &[u8],
-    led: usize,
-    distinguisher: &[u8],
-    originator: &[u8],
+    vrf: &Vrf<'_>,
+    commonest: &[u8],
+    flows: &Flows<'_>,
     output: &mut [u8],
     start: usize,
 ) -> usize
-    requires flows_value { (whole_list 3 flows.now ≡ true) × (whole_item 3 (drop led flows.now) ≡ true) }
-    requires vrf_sized { VrfSized distinguisher.now originator.now × AllSized (list_items 3 flows.now) }
-    requires room_for { RoomFor start (own_places distinguisher.now originator.now (flow_at (drop led flows.now)).wanted (list_items 3 flows.now)) output.old }
-    ensures { Put start (own_places distinguisher.now originator.now (flow_at (drop led flows.now)).wanted (list_items 3 flows.now)) output.old result output.new }
+    requires sized { VrfSized vrf.now.distinguisher.now vrf.now.originator.now × AllSized flows.now }
+    requires room { RoomFor start (own_places vrf.now.distinguisher.now vrf.now.originator.now commonest.now flows.now) output.old }
+    ensures { Put start (own_places vrf.now.distinguisher.now vrf.now.originator.now commonest.now flows.now) output.old result output.new }
 {
     let mut end = start;
-    let mut at = FIRST;
-    let mut left = lists::count_of(flows);
-    while 0 < left {
-        let next = lists::after_item(flows, at, FIELDS);
-        end = put_own(
-            flows,
-            led,
-            at,
-            next,
-            left - 1,
-            distinguisher,
-            originator,
-            output,
-            end,
-        );
-        at = next;
-        left -= 1;
+    let mut rest = flows.again();
+    while let Some(flow) = rest.next() {
+        end = put_own(vrf, commonest, &flow, &rest, output, end);
     }
     end
 }
 
-// The place of the wildcards, with the commonest attribute, and those of the flows that want another. Where they end.
-fn put_all(flows: &[u8], distinguisher: &[u8], originator: &[u8], output: &mut [u8]) -> usize
-    requires flows_value { (whole_list 3 flows.now ≡ true) × (0 < list_count flows.now) }
-    requires vrf_sized { VrfSized distinguisher.now originator.now × AllSized (list_items 3 flows.now) }
-    requires room_for { RoomFor 0 (all_places distinguisher.now originator.now (commonest (flows_in (list_items 3 flows.now))) (list_items 3 flows.now)) output.old }
-    ensures { Put 0 (all_places distinguisher.now originator.now (commonest (flows_in (list_items 3 flows.now))) (list_items 3 flows.now)) output.old result output.new }
+// The place of the wildcards, and those of the flows that have one. Where they end.
+fn put_all(vrf: &Vrf<'_>, flows: &Flows<'_>, output: &mut [u8]) -> usize
+    requires few { length flows.now ≤ 64 }
+    requires sized { VrfSized vrf.now.distinguisher.now vrf.now.originator.now × AllSized flows.now }
+    requires room { RoomFor 0 (all_places vrf.now.distinguisher.now vrf.now.originator.now (commonest flows.now) flows.now) output.old }
+    ensures { Put 0 (all_places vrf.now.distinguisher.now vrf.now.originator.now (commonest flows.now) flows.now) output.old result output.new }
 {
-    let led = commonest::leader_of(flows);
-    let wildcard = parts::between(flows, 0, 0);
-    let start = writing::put_place(
-        output,
-        0,
-        distinguisher,
-        originator,
-        wildcard,
-        wildcard,
-        flows::wanted_at(flows, led),
-    );
-    put_all_own(flows, led, distinguisher, originator, output, start)
+    let wanted = commonest::commonest(flows);
+    let start = writing::put_place(vrf, &[], &[], wanted, output, 0);
+    put_all_own(vrf, wanted, flows, output, start)
+}
+
+// The proposal for flows that are lent, at the front of the output. How many routes it has.
+fn propose(vrf: &Vrf<'_>, flows: &[u8], output: &mut [u8]) -> Result<u32, Refusal>
+    ensures { Leaves (plan_of vrf.now.afi (vrf_in vrf.now) flows.now output.old) (planned_in result) output.new }
+{
+    let count = lists::count_of(flows);
+    let flows = refusals::read_flows(vrf, flows, true)?;
+    if output.len() < PLACE * count {
+        return Err(Refusal::Space);
+    }
+    if count == 0 {
+        return Ok(0);
+    }
+    let end = put_all(vrf, &flows, output);
+    Ok((end / PLACE) as u32)
 }
 
 // Proposes routes for flows as table places at the front of the output, which the judge accepts. FAMILY, RANGE, SHORT, LONG, SHORT, FLOW,
@@ -145,16 +116,11 @@ pub fn plan(
 ) -> Planned
     ensures { Leaves (plan_of afi (vrf_of prefixes.now originator.now distinguisher.now) flows.now output.old) result output.new }
 {
-    let fault = refusals::flows_fault(afi, prefixes, originator, distinguisher, flows, true);
-    if fault != DONE {
-        return Planned::refused(fault);
-    }
-    let count = lists::count_of(flows);
-    if output.len() < PLACE * count {
-        return Planned::refused(SPACE);
-    }
-    if count == 0 {
-        return Planned::done(0);
-    }
-    Planned::done(put_all(flows, distinguisher, originator, output))
+    let vrf = Vrf {
+        afi,
+        prefixes,
+        originator,
+        distinguisher,
+    };
+    Planned::from(propose(&vrf, flows, output))
 }

@@ -1,13 +1,20 @@
 -- The shapes of answers (document 01, "The numbers a call gives back"): number and fields of install and match, and what a match leaves in
 -- its output.
-use Rattle.std.specs.Prelude.{ℕ, List, ◌++◌, length}
+use Rattle.std.specs.Prelude.{ℕ, Result, Ok, Err, Option, Some, None, List, ◌++◌, length}
 use Rattle.octets.specs.Numbers.{DONE}
 use Rattle.octets.specs.Outcome.{Outcome, on_outcome}
 use Rattle.octets.specs.Octets.{front}
+use Rattle.octets.specs.declared.refusal.Refusal.{Refusal}
+use Rattle.octets.specs.Refusals.{refusal_number}
 use Rattle.octets.specs.Outputs.{Changed}
+use Rattle.routes.specs.declared.Installation.{Installation}
+use Rattle.routes.specs.declared.Installation.TheVariants.{New, Replaced}
 use Rattle.routes.specs.declared.Installed.{Installed}
 use Rattle.routes.specs.declared.Matched.{Matched}
+use Rattle.routes.specs.declared.MatchedRoute.{MatchedRoute}
 use Rattle.routes.specs.declared.Restarted.{Restarted}
+use Rattle.routes.specs.declared.Tier.{Tier}
+use Rattle.routes.specs.declared.Tier.TheVariants.{Exact, AnyGroup, AnySource, Any}
 use Rattle.routes.specs.Route.{nlri_of, attribute_of}
 use Rattle.routes.specs.Matching.{Found, nothing, found}
 
@@ -27,6 +34,16 @@ refused_install number = record { number = number; outcome = 0 }
 abbrev pub done_install : ℕ → Installed
 done_install outcome = record { number = DONE; outcome = outcome }
 
+-- the number of what an install did
+abbrev pub installation_number : Installation → ℕ
+installation_number New = NEW
+installation_number Replaced = REPLACED
+
+-- what an install answers, by a result
+abbrev pub installed_by : Result Installation Refusal → Installed
+installed_by (Ok installation) = done_install (installation_number installation)
+installed_by (Err refusal) = refused_install (refusal_number refusal)
+
 -- what an install answers
 unfoldable pub installed_of : Outcome ℕ → Installed
 installed_of outcome = on_outcome refused_install done_install outcome
@@ -39,9 +56,27 @@ refused_restart number = record { number = number; gone = 0 }
 unfoldable pub restarted_of : Outcome ℕ → Restarted
 restarted_of outcome = on_outcome refused_restart (λ gone. record { number = DONE; gone = gone }) outcome
 
+-- what a mark or sweep answers, by a result
+abbrev pub restarted_by : Result ℕ Refusal → Restarted
+restarted_by (Ok gone) = record { number = DONE; gone = gone }
+restarted_by (Err refusal) = refused_restart (refusal_number refusal)
+
 -- a number and empty fields: of a refusal, and DONE where no route matches
 abbrev pub empty_match : ℕ → Matched
 empty_match number = record { number = number; tier = 0; nlri_size = 0; attribute_size = 0 }
+
+-- the number of a tier
+abbrev pub tier_number : Tier → ℕ
+tier_number Exact = 1
+tier_number AnyGroup = 2
+tier_number AnySource = 3
+tier_number Any = 4
+
+-- what a match answers, by a result
+abbrev pub matched_told : Result (Option MatchedRoute) Refusal → Matched
+matched_told (Ok (Some route)) = record { number = DONE; tier = tier_number route.tier; nlri_size = route.nlri_size; attribute_size = route.attribute_size }
+matched_told (Ok None) = empty_match DONE
+matched_told (Err refusal) = empty_match (refusal_number refusal)
 
 -- DONE with the tier and both sizes
 unfoldable pub found_answer : Found → Matched

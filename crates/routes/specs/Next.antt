@@ -1,11 +1,14 @@
 -- The route that comes next in a table after an NLRI: by this call a caller lists a table. By NLRI and not by place, so that a route that comes or
 -- goes between two calls shifts no other.
-use Rattle.std.specs.Prelude.{ℕ, List, [], ◌∷◌, length, ltb}
-use Rattle.octets.specs.Numbers.{TABLE, SPACE}
+use Rattle.std.specs.Prelude.{ℕ, Result, Ok, Err, Option, Some, None, List, [], ◌∷◌, length, ltb}
+use Rattle.octets.specs.Numbers.{DONE, TABLE, SPACE}
 use Rattle.octets.specs.Choice.{pick}
 use Rattle.octets.specs.Outcome.{Outcome, given, refused, on_outcome, unless}
 use Rattle.octets.specs.Order.{before}
+use Rattle.octets.specs.declared.refusal.Refusal.{Refusal}
+use Rattle.octets.specs.Refusals.{refusal_number}
 use Rattle.routes.specs.declared.Following.{Following}
+use Rattle.routes.specs.declared.NextRoute.{NextRoute}
 use Rattle.routes.specs.Route.{Route, nlri_of, stale_of}
 use Rattle.routes.specs.Place.{mark_octet}
 use Rattle.routes.specs.Table.{routes_of, sound_of}
@@ -25,6 +28,13 @@ next_outcome t nlri output = unless (sound_of t) TABLE (pick (ltb (length output
 -- a number and empty fields: of a refusal, and DONE where no route comes after
 abbrev pub empty_next : ℕ → Following
 empty_next number = record { number = number; nlri_size = 0; attribute_size = 0; stale = 0 }
+
+-- what next answers, by a result
+abbrev pub following_told : Result (Option NextRoute) Refusal → Following
+following_told (Ok (Some route)) =
+    record { number = DONE; nlri_size = route.nlri_size; attribute_size = route.attribute_size; stale = mark_octet route.is_stale }
+following_told (Ok None) = empty_next DONE
+following_told (Err refusal) = empty_next (refusal_number refusal)
 
 -- the mark of a route that was found, as next tells it
 unfoldable pub found_mark : Found → ℕ

@@ -1,12 +1,17 @@
 -- Salvage of a damaged table (document 02, W-212): every place is looked at, whatever the header and its count say. Which routes are kept, which places
 -- are dropped and why, and what the call answers and leaves.
-use Rattle.std.specs.Prelude.{ℕ, zero, suc, ◌+◌, ◌*◌, ◌≡◌, List, [], ◌∷◌, ◌++◌, length, ltb, eqb}
+use Rattle.std.specs.Prelude.{ℕ, Result, Ok, Err, Option, Some, None, zero, suc, ◌+◌, ◌*◌, ◌≡◌, List, [], ◌∷◌, ◌++◌, length, ltb, eqb}
 use Rattle.octets.specs.Numbers.{DONE, TABLE, SPACE}
 use Rattle.octets.specs.Choice.{pick}
 use Rattle.octets.specs.Outcome.{Outcome, given, refused, on_outcome, unless, and_then}
 use Rattle.octets.specs.Octets.{part, front, big_endian}
 use Rattle.octets.specs.Order.{all_zero}
 use Rattle.nlri.specs.Family.{family_bits}
+use Rattle.octets.specs.declared.refusal.Refusal.{Refusal}
+use Rattle.octets.specs.Refusals.{refusal_number}
+use Rattle.routes.specs.declared.DropReason.{DropReason}
+use Rattle.routes.specs.declared.DropReason.TheVariants.{Bad, Repeated}
+use Rattle.routes.specs.declared.SalvageCounts.{SalvageCounts}
 use Rattle.routes.specs.declared.Salvaged.{Salvaged}
 use Rattle.routes.specs.Route.{Route, nlri_of, holds, arranged}
 use Rattle.routes.specs.Place.{PLACE, route_in, place_sound}
@@ -32,6 +37,16 @@ BAD = 1
 -- or it repeats the NLRI of a good place before it
 abbrev pub REPEATED : ℕ
 REPEATED = 2
+
+-- the octet of each
+abbrev pub drop_octet : DropReason → ℕ
+drop_octet Bad = BAD
+drop_octet Repeated = REPEATED
+
+-- the same; 0 for no reason
+abbrev pub drop_octet_or_0 : Option DropReason → ℕ
+drop_octet_or_0 (Some reason) = drop_octet reason
+drop_octet_or_0 None = 0
 
 -- the reason of a place behind places with these good routes; 0 for one that is kept and for an all-zero one
 unfoldable pub reason_of : (afi : ℕ) (place : List ℕ) (earlier : List Route) → ℕ
@@ -72,6 +87,11 @@ LeavesBoth due r table list = (r ≡ due.answer) × (table ≡ due.table) × (li
 -- a refusal's number and empty fields
 abbrev pub empty_salvage : ℕ → Salvaged
 empty_salvage number = record { number = number; kept = 0; dropped = 0 }
+
+-- what salvage answers, by a result
+abbrev pub salvaged_by : Result SalvageCounts Refusal → Salvaged
+salvaged_by (Ok counts) = record { number = DONE; kept = counts.kept; dropped = counts.dropped }
+salvaged_by (Err refusal) = empty_salvage (refusal_number refusal)
 
 -- how many places there are. FAMILY; TABLE for the size; SPACE for a second buffer of another size, or a list's of fewer than 3 octets a place
 unfoldable pub salvage_outcome : (afi : ℕ) (damaged table list : List ℕ) → Outcome ℕ

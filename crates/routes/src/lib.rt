@@ -2,15 +2,23 @@
 #![tactic(auto)]
 
 ghost use Rattle.std.specs.Prelude.{◌≡◌};
-ghost use Rattle.routes.specs.Answers.{refused_install, done_install, refused_restart, empty_match};
-ghost use Rattle.routes.specs.Reasons.{refused_explanation};
-ghost use Rattle.routes.specs.Next.{empty_next};
-ghost use Rattle.routes.specs.Info.{empty_info};
-ghost use Rattle.routes.specs.Salvage.{empty_salvage};
+ghost use Rattle.routes.specs.Answers.{installed_by, restarted_by, empty_match, matched_told};
+ghost use Rattle.routes.specs.Reasons.{reason_numbers, explained_told};
+ghost use Rattle.routes.specs.Next.{empty_next, following_told};
+ghost use Rattle.routes.specs.Info.{facts_by};
+ghost use Rattle.routes.specs.Salvage.{drop_octet, salvaged_by};
 
 use octets::number::DONE;
+use octets::refusal::Refusal;
 
-// What install answers: DONE with NEW or REPLACED, or the refusal's number and 0.
+// What an install did: the NLRI was not held, or it was, and has this attribute now.
+#[derive(Clone, Copy, Debug, PartialEq, Eq)]
+pub enum Installation {
+    New = 1,
+    Replaced = 2,
+}
+
+// What install answers: DONE with the number of what it did, or the refusal's number and 0.
 #[repr(C)]
 #[derive(Clone, Copy)]
 pub struct Installed {
@@ -18,25 +26,19 @@ pub struct Installed {
     pub outcome: u32,
 }
 
-impl Installed {
-    pub const NEW: u32 = 1;
+impl From<Result<Installation, Refusal>> for Installed {
+    ghost from_gives = { λ done installed. installed ≡ installed_by done };
 
-    pub const REPLACED: u32 = 2;
-
-    // An install that is refused.
-    pub fn refused(number: u32) -> Installed
-        ensures { result ≡ refused_install number }
-    {
-        Installed { number, outcome: 0 }
-    }
-
-    // An install that is done, with NEW or REPLACED.
-    pub fn done(outcome: u32) -> Installed
-        ensures { result ≡ done_install outcome }
-    {
-        Installed {
-            number: DONE,
-            outcome,
+    fn from(done: Result<Installation, Refusal>) -> Installed {
+        match done {
+            Ok(installation) => Installed {
+                number: DONE,
+                outcome: installation as u32,
+            },
+            Err(refusal) => Installed {
+                number: refusal.number(),
+                outcome: 0,
+            },
         }
     }
 }
@@ -49,13 +51,35 @@ pub struct Restarted {
     pub gone: u32,
 }
 
-impl Restarted {
-    // A call that is refused.
-    pub fn refused(number: u32) -> Restarted
-        ensures { result ≡ refused_restart number }
-    {
-        Restarted { number, gone: 0 }
+impl From<Result<u32, Refusal>> for Restarted {
+    ghost from_gives = { λ done restarted. restarted ≡ restarted_by done };
+
+    fn from(done: Result<u32, Refusal>) -> Restarted {
+        match done {
+            Ok(gone) => Restarted { number: DONE, gone },
+            Err(refusal) => Restarted {
+                number: refusal.number(),
+                gone: 0,
+            },
+        }
     }
+}
+
+// The tiers of a flow, in the order in which they win.
+#[derive(Clone, Copy, Debug, PartialEq, Eq, PartialOrd, Ord)]
+pub enum Tier {
+    Exact = 1,
+    AnyGroup = 2,
+    AnySource = 3,
+    Any = 4,
+}
+
+// The route that a match takes: its tier, and the sizes of its NLRI and its attribute.
+#[derive(Clone, Copy)]
+pub struct MatchedRoute {
+    pub tier: Tier,
+    pub nlri_size: u32,
+    pub attribute_size: u32,
 }
 
 // What match answers: DONE with the tier and both sizes, all 0 where no route matches, or the refusal's number and 0.
@@ -69,8 +93,8 @@ pub struct Matched {
 }
 
 impl Matched {
-    // A match that is refused.
-    pub fn refused(number: u32) -> Matched
+    // A number and empty fields.
+    fn empty(number: u32) -> Matched
         ensures { result ≡ empty_match number }
     {
         Matched {
@@ -80,13 +104,62 @@ impl Matched {
             attribute_size: 0,
         }
     }
+}
 
-    // A match that finds no route.
-    pub fn none() -> Matched
-        ensures { result ≡ empty_match 0 }
-    {
-        Matched::refused(DONE)
+impl From<Result<Option<MatchedRoute>, Refusal>> for Matched {
+    ghost from_gives = { λ told matched. matched ≡ matched_told told };
+
+    fn from(told: Result<Option<MatchedRoute>, Refusal>) -> Matched {
+        match told {
+            Ok(Some(route)) => Matched {
+                number: DONE,
+                tier: route.tier as u32,
+                nlri_size: route.nlri_size,
+                attribute_size: route.attribute_size,
+            },
+            Ok(None) => Matched::empty(DONE),
+            Err(refusal) => Matched::empty(refusal.number()),
+        }
     }
+}
+
+// Why a tier was taken or not.
+#[derive(Clone, Copy, Debug, PartialEq, Eq)]
+pub enum Reason {
+    Taken = 1,
+    NoSuchRoute = 2,
+    WrongGroupClass = 3,
+    EarlierTierWon = 4,
+}
+
+// Why each tier was taken or not.
+#[derive(Clone, Copy)]
+pub struct Reasons {
+    pub exact: Reason,
+    pub any_group: Reason,
+    pub any_source: Reason,
+    pub any: Reason,
+}
+
+impl Reasons {
+    // Their numbers, in the order of the tiers.
+    fn numbers(self) -> [u32; 4]
+        ensures { result ≡ reason_numbers self }
+    {
+        [
+            self.exact as u32,
+            self.any_group as u32,
+            self.any_source as u32,
+            self.any as u32,
+        ]
+    }
+}
+
+// The route that a flow's match takes, if any, and why each tier was taken or not.
+#[derive(Clone, Copy)]
+pub struct Explanation {
+    pub route: Option<MatchedRoute>,
+    pub reasons: Reasons,
 }
 
 // What explain answers: match's whole answer, and of tiers 1 to 4 in turn why it was taken or not; on a refusal all reasons are 0.
@@ -97,24 +170,29 @@ pub struct Explained {
     pub reasons: [u32; 4],
 }
 
-impl Explained {
-    pub const TAKEN: u32 = 1;
+impl From<Result<Explanation, Refusal>> for Explained {
+    ghost from_gives = { λ told explained. explained ≡ explained_told told };
 
-    pub const NO_SUCH_ROUTE: u32 = 2;
-
-    pub const WRONG_GROUP_CLASS: u32 = 3;
-
-    pub const EARLIER_TIER_WON: u32 = 4;
-
-    // A refusal, of which there is no reason to tell.
-    pub fn refused(number: u32) -> Explained
-        ensures { result ≡ refused_explanation number }
-    {
-        Explained {
-            matched: Matched::refused(number),
-            reasons: [0; 4],
+    fn from(told: Result<Explanation, Refusal>) -> Explained {
+        match told {
+            Ok(explanation) => Explained {
+                matched: Matched::from(Ok(explanation.route)),
+                reasons: explanation.reasons.numbers(),
+            },
+            Err(refusal) => Explained {
+                matched: Matched::empty(refusal.number()),
+                reasons: [0; 4],
+            },
         }
     }
+}
+
+// The route that comes next: the sizes of its NLRI and its attribute, and whether it is marked stale.
+#[derive(Clone, Copy)]
+pub struct NextRoute {
+    pub nlri_size: u32,
+    pub attribute_size: u32,
+    pub is_stale: bool,
 }
 
 // What next answers: DONE with both sizes and the mark, 1 where the route is marked stale, all 0 where no route comes after, or the
@@ -129,8 +207,8 @@ pub struct Following {
 }
 
 impl Following {
-    // A call that is refused.
-    pub fn refused(number: u32) -> Following
+    // A number and empty fields.
+    fn empty(number: u32) -> Following
         ensures { result ≡ empty_next number }
     {
         Following {
@@ -140,16 +218,34 @@ impl Following {
             stale: 0,
         }
     }
+}
 
-    // No route comes after.
-    pub fn none() -> Following
-        ensures { result ≡ empty_next 0 }
-    {
-        Following::refused(DONE)
+impl From<Result<Option<NextRoute>, Refusal>> for Following {
+    ghost from_gives = { λ told following. following ≡ following_told told };
+
+    fn from(told: Result<Option<NextRoute>, Refusal>) -> Following {
+        match told {
+            Ok(Some(route)) => Following {
+                number: DONE,
+                nlri_size: route.nlri_size,
+                attribute_size: route.attribute_size,
+                stale: route.is_stale as u32,
+            },
+            Ok(None) => Following::empty(DONE),
+            Err(refusal) => Following::empty(refusal.number()),
+        }
     }
 }
 
-// What a table says of itself: DONE with its family, its places and how many routes are in them, or the refusal's number and 0.
+// A sound table's family, its places, and how many routes are in them.
+#[derive(Clone, Copy)]
+pub struct TableContents {
+    pub afi: u32,
+    pub places: u32,
+    pub routes: u32,
+}
+
+// What a table says of itself: DONE with what it has, or the refusal's number and 0.
 #[repr(C)]
 #[derive(Clone, Copy)]
 pub struct TableFacts {
@@ -159,21 +255,50 @@ pub struct TableFacts {
     pub routes: u32,
 }
 
-impl TableFacts {
-    // A call that is refused.
-    pub fn refused(number: u32) -> TableFacts
-        ensures { result ≡ empty_info number }
-    {
-        TableFacts {
-            number,
-            afi: 0,
-            places: 0,
-            routes: 0,
+impl From<Result<TableContents, Refusal>> for TableFacts {
+    ghost from_gives = { λ told facts. facts ≡ facts_by told };
+
+    fn from(told: Result<TableContents, Refusal>) -> TableFacts {
+        match told {
+            Ok(contents) => TableFacts {
+                number: DONE,
+                afi: contents.afi,
+                places: contents.places,
+                routes: contents.routes,
+            },
+            Err(refusal) => TableFacts {
+                number: refusal.number(),
+                afi: 0,
+                places: 0,
+                routes: 0,
+            },
         }
     }
 }
 
-// What salvage answers: DONE with how many routes are kept and how many places dropped, or the refusal's number and 0.
+// Why salvage drops a place: it is bad, or it repeats the NLRI of a good place before it.
+#[derive(Clone, Copy, Debug, PartialEq, Eq)]
+pub enum DropReason {
+    Bad = 1,
+    Repeated = 2,
+}
+
+impl From<DropReason> for u8 {
+    ghost from_gives = { λ reason octet. octet ≡ drop_octet reason };
+
+    fn from(reason: DropReason) -> u8 {
+        reason as u8
+    }
+}
+
+// How many routes salvage keeps, and how many places it drops.
+#[derive(Clone, Copy)]
+pub struct SalvageCounts {
+    pub kept: u32,
+    pub dropped: u32,
+}
+
+// What salvage answers: DONE with its counts, or the refusal's number and 0.
 #[repr(C)]
 #[derive(Clone, Copy)]
 pub struct Salvaged {
@@ -182,20 +307,21 @@ pub struct Salvaged {
     pub dropped: u32,
 }
 
-impl Salvaged {
-    // The reasons for which a place is dropped.
-    pub const BAD: u8 = 1;
+impl From<Result<SalvageCounts, Refusal>> for Salvaged {
+    ghost from_gives = { λ done salvaged. salvaged ≡ salvaged_by done };
 
-    pub const REPEATED: u8 = 2;
-
-    // A call that is refused.
-    pub fn refused(number: u32) -> Salvaged
-        ensures { result ≡ empty_salvage number }
-    {
-        Salvaged {
-            number,
-            kept: 0,
-            dropped: 0,
+    fn from(done: Result<SalvageCounts, Refusal>) -> Salvaged {
+        match done {
+            Ok(counts) => Salvaged {
+                number: DONE,
+                kept: counts.kept,
+                dropped: counts.dropped,
+            },
+            Err(refusal) => Salvaged {
+                number: refusal.number(),
+                kept: 0,
+                dropped: 0,
+            },
         }
     }
 }

@@ -6,7 +6,7 @@ use Prim.Native.Nat.{ℕ, suc, ◌+◌, ◌-◌, ◌≤◌, ◌<◌}
 use native.Mathlib.Nat.{sub-zero}
 use native.Mathlib.Omega.{arith}
 use lib.ListN.{length, drop}
-use Rattle.octets.specs.Numbers.{DONE, LONG, FAMILY}
+use Rattle.octets.specs.Numbers.{DONE, LONG}
 use Rattle.octets.specs.Outcome.{given, refused, number_of}
 use Rattle.octets.proofs.Outcome.{refused-of}
 use Rattle.nlri.specs.declared.layout.Layout.{Layout}
@@ -32,10 +32,10 @@ module _ (afi mode : ℕ) (run : List ℕ) where
   unfolding walk_by
   walk_first number s h = sym (walk_by_from-stopped afi run 0 mode _ 0 0 number (turn-stops afi run 0 mode number s h))
 
-  pub walk-family : (n : ℕ) → family_bits afi ≡ refused n → walked_to FAMILY 0 0 ≡ walk_by afi mode run
+  pub walk-family : (n : ℕ) → family_bits afi ≡ refused n → walked_to n 0 0 ≡ walk_by afi mode run
   walk-family n e =
       let is = (family-refused afi n e).0 in
-      ap (λ (k : ℕ). walked_to k 0 0) (sym is) ∙ walk_first n (stops-refused_at n 0 (step-family afi run 0 n e)) (never-skipped mode n (λ t. omega arith) (λ g. omega arith))
+      walk_first n (stops-refused_at n 0 (step-family afi run 0 n e)) (never-skipped mode n (λ t. omega arith) (λ g. omega arith))
 
   pub walk-long : (bits : ℕ) → family_bits afi ≡ given bits → 4096 < length run → walked_to LONG 0 0 ≡ walk_by afi mode run
   walk-long bits f h = walk_first LONG (stops-refused_at LONG 0 (step-long afi run 0 bits f h)) (never-skipped mode LONG (λ t. omega arith) (λ g. omega arith))

@@ -1,4 +1,5 @@
 -- Laws of steps and of walks, and how the functions' proofs use them; then the proofs of what specs/Rules/WalkRules.antt states.
+pub mod Refusals
 pub mod Steps
 pub mod Nlris
 pub mod Turns

@@ -26,11 +26,9 @@ use Rattle.nlri.proofs.Statements.Acceptance.{front-accepted}
 use Rattle.nlri.proofs.Statements.ReadRefusals.{read_refusals}
 use Rattle.nlri.proofs.Statements.Layouts.{length-encoded, layout-refused}
 use Rattle.runs.specs.declared.walking.Walked.{Walked}
-use Rattle.runs.specs.declared.turning.Turn.{Turn}
-use Rattle.runs.specs.declared.turning.Turn.TheVariants.{Read, Skipped, Stopped}
 use Rattle.runs.specs.Walking.{step_from, walked_with, walk_from, walk_of, NlriRead, nlris_from, nlris_of}
 use Rattle.runs.specs.Rules.WalkRules.{front, encode_run, RunEnd, nothing, refusal}
-use Rattle.runs.specs.Modes.{SKIP, SkippableNumber, past_nlri, turn_from, walk_by_from, walk_by, nlris_by_from, nlris_by}
+use Rattle.runs.specs.Modes.{TurnTaken, Read, Skipped, Stopped, SKIP, SkippableNumber, past_nlri, turn_from, walk_by_from, walk_by, nlris_by_from, nlris_by}
 use Rattle.runs.specs.Rules.ModeRule.{EncodedNlri, encodings, SkippableNlri, unknown, discarded, SkippingRun, end, nlri, skip, Split, ModeRule}
 use Rattle.runs.proofs.Steps.{Stops, stops-refused_at}
 use Rattle.runs.proofs.Nlris.{walk_from-stops, nlris_from-stops}
@@ -74,7 +72,7 @@ module _ (afi mode : ℕ) (run : List ℕ) where
   count-from zero at count skipped = omega arith
   count-from (suc left) at count skipped = go (turn_from afi mode run at) refl (count-from left)
     where
-      go : (t : Turn) → turn_from afi mode run at ≡ t → ((at' count' skipped' : ℕ) → (walk_by_from left afi mode run at' count' skipped').count ≡ count' + length (nlris_by_from left afi mode run at'))
+      go : (t : TurnTaken) → turn_from afi mode run at ≡ t → ((at' count' skipped' : ℕ) → (walk_by_from left afi mode run at' count' skipped').count ≡ count' + length (nlris_by_from left afi mode run at'))
           → (walk_by_from (suc left) afi mode run at count skipped).count ≡ count + length (nlris_by_from (suc left) afi mode run at)
       go (Read l c) e later =
           let walk = ap (λ (w : Walked). w.count) (walk_by_from-read afi run at mode left count skipped l c e) in

@@ -1,5 +1,5 @@
 -- What a step answers (document 01, "NLRI on the wire", walking a run).
-use mathlib.Core.Path.{◌≡◌, refl, sym, ◌∙◌, ap, ap₂, subst}
+use mathlib.Core.Path.{◌≡◌, refl, sym, ◌∙◌, ap, subst}
 use mathlib.Core.Bool.{true}
 use mathlib.Core.Logic.{◌⊎◌, inl, inr, ⊎_elim}
 use mathlib.Core.List.{List}
@@ -27,9 +27,11 @@ use Rattle.nlri.proofs.Statements.ReadRefusals.{read_refusals, front-not-done}
 use Rattle.nlri.proofs.Statements.Layouts.{length-encoded, layout-encoded, layout-refused}
 use Rattle.runs.specs.declared.stepping.Cursor.{Cursor}
 use Rattle.runs.specs.declared.stepping.Step.{Step}
-use Rattle.runs.specs.declared.stepping.Step.TheVariants as step
+use Rattle.octets.specs.declared.refusal.Refusal.{Refusal}
+use Rattle.std.proofs.Common.{Option, Some, None, Result, Ok, Err}
 use Rattle.runs.specs.Walking.{StepTaken, read_to, ended_at, refused_at, step_from, step_taken_of}
 use Rattle.runs.specs.Rules.WalkRules.{EncodedAt, EndAt, StepRefusal, bad_family, long, past, front, StepRule}
+use Rattle.runs.proofs.Refusals.{refusal-same}
 use Rattle.runs.proofs.Steps.{step-family, step-long, step_end, step_past, step-accepted, step-unaccepted, Comes, family, too_long, end, beyond, unaccepted, accepted, comes-step_from, reads-step_from}
 
 -- the route type of a layout is known
@@ -103,21 +105,24 @@ step-not-done afi run at n (long bits f h) e = omega arith
 step-not-done afi run at n (past bits f few far) e = omega arith
 step-not-done afi run at n (front bits f few before why) e = front-not-done bits (drop at run) n why e
 
--- cursors at the same place are equal, and so are answers with the same number and values
+-- cursors at the same place are equal, and so are results with the same number and values
 pub cursor-same : (c d : Cursor) → c.at ≡ d.at → c ≡ d
 cursor-same c d e = λ i. record { at = e i }
 
-steps_apart : (a b : Step) → step_taken_of a ≡ step_taken_of b → a ≡ b
+steps-same : (p q : Step) → p.layout ≡ q.layout → p.next.at ≡ q.next.at → p ≡ q
+steps-same p q e h = λ i. record { layout = e i; next = record { at = h i } }
+
+steps_apart : (a b : Result (Option Step) Refusal) (at : ℕ) → step_taken_of a at ≡ step_taken_of b at → a ≡ b
 unfolding step_taken_of read_to ended_at refused_at
-steps_apart (step.Nlri l c) (step.Nlri m d) e = ap₂ step.Nlri (ap (λ (s : StepTaken). s.layout) e) (cursor-same c d (ap (λ (s : StepTaken). s.cursor) e))
-steps_apart (step.Nlri l c) (step.End d) e = absurd (opposite refl (ap (λ (s : StepTaken). s.read) e))
-steps_apart (step.Nlri l c) (step.Refused n d) e = absurd (opposite refl (ap (λ (s : StepTaken). s.read) e))
-steps_apart (step.End c) (step.Nlri m d) e = absurd (opposite refl (ap (λ (s : StepTaken). s.read) (sym e)))
-steps_apart (step.End c) (step.End d) e = ap step.End (cursor-same c d (ap (λ (s : StepTaken). s.cursor) e))
-steps_apart (step.End c) (step.Refused n d) e = absurd (opposite refl (ap (λ (s : StepTaken). s.ended) e))
-steps_apart (step.Refused n c) (step.Nlri m d) e = absurd (opposite refl (ap (λ (s : StepTaken). s.read) (sym e)))
-steps_apart (step.Refused n c) (step.End d) e = absurd (opposite refl (ap (λ (s : StepTaken). s.ended) (sym e)))
-steps_apart (step.Refused n c) (step.Refused m d) e = ap₂ step.Refused (ap (λ (s : StepTaken). s.number) e) (cursor-same c d (ap (λ (s : StepTaken). s.cursor) e))
+steps_apart (Ok (Some p)) (Ok (Some q)) at e = ap (λ (x : Step). Ok (Some x)) (steps-same p q (ap (λ (s : StepTaken). s.layout) e) (ap (λ (s : StepTaken). s.cursor) e))
+steps_apart (Ok (Some p)) (Ok None) at e = absurd (opposite refl (ap (λ (s : StepTaken). s.read) e))
+steps_apart (Ok (Some p)) (Err r) at e = absurd (opposite refl (ap (λ (s : StepTaken). s.read) e))
+steps_apart (Ok None) (Ok (Some q)) at e = absurd (opposite refl (ap (λ (s : StepTaken). s.read) (sym e)))
+steps_apart (Ok None) (Ok None) at e = refl
+steps_apart (Ok None) (Err r) at e = absurd (opposite refl (ap (λ (s : StepTaken). s.ended) e))
+steps_apart (Err r) (Ok (Some q)) at e = absurd (opposite refl (ap (λ (s : StepTaken). s.read) (sym e)))
+steps_apart (Err r) (Ok None) at e = absurd (opposite refl (ap (λ (s : StepTaken). s.ended) (sym e)))
+steps_apart (Err r) (Err q) at e = ap Err (refusal-same r q (ap (λ (s : StepTaken). s.number) e))
 
 pub step_rule : StepRule
 unfolding ended_at
@@ -125,6 +130,7 @@ step_rule =
     record {
       reads = step-encoded;
       ends = λ afi run at. (λ e. end-at afi run at (comes-step_from afi run at) (ap (λ (s : StepTaken). s.ended) e), ends_at afi run at);
+      ended = λ afi run at. (end-at afi run at (comes-step_from afi run at), λ h. ap (λ (s : StepTaken). s.ended) (ends_at afi run at h));
       refuses = λ afi run at n a. (refusal-at afi run at a n, step-refuses afi run at a n);
       decided = step-decided;
       done = λ afi run at h. step-not-done afi run at DONE h refl;

@@ -16,9 +16,11 @@ use Rattle.nlri.specs.Family.{family_bits}
 use Rattle.nlri.specs.Layouts.{layout_at}
 use Rattle.nlri.proofs.Functions.Fronts.{layout-octets}
 use Rattle.nlri.proofs.Definitions.ReadNumbers.{refuses-done, refuses-layout}
-use Rattle.runs.specs.declared.stepping.Cursor.{Cursor}
 use Rattle.runs.specs.declared.stepping.Step.{Step}
-use Rattle.runs.specs.declared.stepping.Step.TheVariants.{Nlri, End, Refused}
+use Rattle.octets.specs.Refusals.{refusal_number}
+use Rattle.octets.specs.declared.refusal.Refusal.{Refusal}
+use Rattle.std.proofs.Common.{Option, Some, None, Result, Ok, Err}
+use Rattle.std.specs.Result.{IsErrAnd}
 use Rattle.runs.specs.Walking.{StepTaken, read_to, ended_at, refused_at, advanced, step_under, step_from, step_taken_of}
 
 -- a step that reads no NLRI, and its number: the run's end, or a refusal
@@ -126,21 +128,28 @@ step-moves afi run at l c e =
     let n = ap (λ (s : StepTaken). s.cursor) e in
     (omega (arith, r.cursor), omega (arith, r.cursor, r.within), r.short)
 
--- the cases of the answer
-pub step-read : (r : Step) (s : StepTaken) (l : Layout) (c : Cursor) → step_taken_of r ≡ s → r ≡ Nlri l c → s ≡ read_to l c.at
+-- the cases of a step's result
+module _ (s : StepTaken) (cursor : ℕ) where
+  pub step-read : (p : Step) → step_taken_of (Ok (Some p)) cursor ≡ s → s ≡ read_to p.layout p.next.at
+  unfolding step_taken_of
+  step-read p e = sym e
+
+  pub step-ended : step_taken_of (Ok None) cursor ≡ s → s ≡ ended_at cursor
+  unfolding step_taken_of
+  step-ended e = sym e
+
+  pub step-refused : (r : Refusal) → step_taken_of (Err r) cursor ≡ s → s ≡ refused_at (refusal_number r) cursor
+  unfolding step_taken_of
+  step-refused r e = sym e
+
+  pub stops-ended : step_taken_of (Ok None) cursor ≡ s → Stops s DONE
+  stops-ended e = stops-ended_at cursor (step-ended e)
+
+  pub stops-refused : (r : Refusal) → step_taken_of (Err r) cursor ≡ s → Stops s (refusal_number r)
+  stops-refused r e = stops-refused_at (refusal_number r) cursor (step-refused r e)
+
+-- a refusal that is passed on
+pub step-passed : (cursor : ℕ) (result : Result (Option Step) Refusal) (r : Refusal) → IsErrAnd result (λ x. x ≡ r) → step_taken_of result cursor ≡ refused_at (refusal_number r) cursor
 unfolding step_taken_of
-step-read r s l c p q = sym p ∙ ap step_taken_of q
-
-pub step-ended : (r : Step) (s : StepTaken) (c : Cursor) → step_taken_of r ≡ s → r ≡ End c → s ≡ ended_at c.at
-unfolding step_taken_of
-step-ended r s c p q = sym p ∙ ap step_taken_of q
-
-pub step-refused : (r : Step) (s : StepTaken) (n : ℕ) (c : Cursor) → step_taken_of r ≡ s → r ≡ Refused n c → s ≡ refused_at n c.at
-unfolding step_taken_of
-step-refused r s n c p q = sym p ∙ ap step_taken_of q
-
-pub stops-ended : (r : Step) (s : StepTaken) (c : Cursor) → step_taken_of r ≡ s → r ≡ End c → Stops s DONE
-stops-ended r s c p q = stops-ended_at c.at (step-ended r s c p q)
-
-pub stops-refused : (r : Step) (s : StepTaken) (n : ℕ) (c : Cursor) → step_taken_of r ≡ s → r ≡ Refused n c → Stops s n
-stops-refused r s n c p q = stops-refused_at n c.at (step-refused r s n c p q)
+step-passed cursor (Ok l) r h = absurd h
+step-passed cursor (Err q) r h = ap (λ (x : Refusal). refused_at (refusal_number x) cursor) h

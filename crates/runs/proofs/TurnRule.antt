@@ -7,15 +7,13 @@ use Rattle.octets.specs.Numbers.{DONE}
 use Rattle.octets.proofs.Choice.{opposite}
 use Rattle.nlri.specs.Fields.{encode_nlri}
 use Rattle.nlri.specs.Rules.NlriRules.{layout_for}
-use Rattle.runs.specs.declared.turning.Turn.{Turn}
-use Rattle.runs.specs.declared.turning.Turn.TheVariants.{Read, Skipped, Stopped}
-use Rattle.runs.specs.Modes.{SKIP, Turned, turned_of}
+use Rattle.runs.specs.Modes.{TurnTaken, Read, Skipped, Stopped, SKIP, Turned, turned_of}
 use Rattle.runs.specs.Rules.ModeRule.{TurnRule}
 use Rattle.runs.proofs.Steps.{stops-ended_at, stops-refused_at}
 use Rattle.runs.proofs.StepRule.{step_rule, cursor-same}
 use Rattle.runs.proofs.Turns.{skips, skippable-apart, not-skipped, turn-reads, turn-skips, turn-stops}
 
-turns-apart : (a b : Turn) → turned_of a ≡ turned_of b → a ≡ b
+turns-apart : (a b : TurnTaken) → turned_of a ≡ turned_of b → a ≡ b
 unfolding turned_of
 turns-apart (Read l c) (Read m d) e = ap₂ Read (ap (λ (t : Turned). t.layout) e) (cursor-same c d (ap (λ (t : Turned). t.cursor) e))
 turns-apart (Read l c) (Skipped d) e = absurd (opposite refl (ap (λ (t : Turned). t.read) e))

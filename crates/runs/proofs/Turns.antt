@@ -5,14 +5,15 @@ use mathlib.Core.List.{List, [], ◌∷◌}
 use mathlib.Core.Logic.{inl, inr, ⊎_elim}
 use Prim.Native.Nat.{ℕ, suc, ◌+◌, ◌-◌, ◌≤◌, ◌<◌}
 use native.Mathlib.Omega.{arith}
-use borrow.Author.Tests.{eqb-true, ltb-false}
+use borrow.Author.Tests.{eqb-true, eqb-false, ltb-false}
+use lib.Dec.{eqb}
 use lib.ListN.{length, get_or, drop, length-drop}
 use lib.Seq.{get_or-drop}
 use Rattle.octets.specs.Numbers.{DONE, SHORT, TYPE, LONG, FAMILY, GROUP}
 use Rattle.octets.specs.Choice.{both, either}
 use Rattle.octets.specs.Outcome.{given, refused}
 use Rattle.octets.specs.Octets.{part}
-use Rattle.octets.proofs.Choice.{opposite, is_false, both-held, either_true, picked, pick_true, pick-false}
+use Rattle.octets.proofs.Choice.{tested, opposite, is_false, both-held, either_true, picked, pick_true, pick-false}
 use Rattle.octets.proofs.Outcome.{never, stopped, refused-same}
 use Rattle.nlri.specs.declared.layout.Layout.{Layout}
 use Rattle.nlri.specs.Reading.{Laid, key_field, laid_with, laid_at, accepted_at}
@@ -20,10 +21,10 @@ use Rattle.nlri.specs.Layouts.{layout_at}
 use Rattle.nlri.specs.Rules.NlriRules.{BodyFault}
 use Rattle.nlri.proofs.Definitions.Families.{family-refused}
 use Rattle.nlri.proofs.Definitions.Whole.{laid_out_lem}
+use Rattle.runs.specs.declared.mode.Mode.{Mode}
 use Rattle.runs.specs.declared.stepping.Cursor.{Cursor}
-use Rattle.runs.specs.declared.turning.Turn.TheVariants.{Read, Skipped, Stopped}
 use Rattle.runs.specs.Walking.{StepTaken, read_to, ended_at, refused_at, step_from, walked_with}
-use Rattle.runs.specs.Modes.{SKIP, SkippableNumber, is_skipped, past_nlri, turn_from, on_turn, walk_by_from, nlris_by_from}
+use Rattle.runs.specs.Modes.{Read, Skipped, Stopped, SKIP, mode_number, mode_by, SkippableNumber, is_skipped, past_nlri, turn_from, on_turn, walk_by_from, nlris_by_from}
 use Rattle.runs.proofs.Steps.{Stops, Comes, family, too_long, end, beyond, unaccepted, accepted, comes-step_from}
 
 -- the refusals that are skipped
@@ -48,6 +49,13 @@ not-skipped mode number h = is_false _ (λ t. let s = skipped-number mode number
 
 pub never-skipped : (mode number : ℕ) → (number ≡ TYPE → ⊥) → (number ≡ GROUP → ⊥) → is_skipped mode number ≡ false
 never-skipped mode number t g = not-skipped mode number (λ _. ⊎_elim t g)
+
+-- a mode skips what its number does
+pub skipped-by : (mode number : ℕ) → is_skipped (mode_number (mode_by mode)) number ≡ is_skipped mode number
+unfolding is_skipped both
+skipped-by mode number =
+    tested (eqb mode SKIP) (λ t. ap (λ (m : Mode). is_skipped (mode_number m) number) (pick_true _ _ _ t) ∙ ap (λ (m : ℕ). is_skipped m number) (sym (eqb-true mode SKIP t)))
+    (λ f. ap (λ (m : Mode). is_skipped (mode_number m) number) (pick-false _ _ _ f) ∙ sym (not-skipped mode number (λ e _. eqb-false mode SKIP f e)))
 
 -- the numbers of bodies come behind SHORT and TYPE and before GROUP: they stop the walk
 pub body_fault-between : (n : ℕ) → BodyFault n → (TYPE < n) × (n < GROUP)

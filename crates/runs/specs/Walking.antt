@@ -1,12 +1,13 @@
 -- Walking a run (document 01, "NLRI on the wire"): the step from a cursor, and the walk as its iteration.
-use Rattle.std.specs.Prelude.{ℕ, zero, suc, ◌+◌, ◌-◌, Bool, true, false, List, [], ◌∷◌, length, drop, ltb, eqb}
+use Rattle.std.specs.Prelude.{ℕ, zero, suc, ◌+◌, ◌-◌, Bool, true, false, Option, Some, None, Result, Ok, Err, List, [], ◌∷◌, length, drop, ltb, eqb}
 use Rattle.octets.specs.Numbers.{DONE, SHORT, LONG}
 use Rattle.octets.specs.Choice.{pick}
 use Rattle.octets.specs.Outcome.{on_outcome}
 use Rattle.octets.specs.Octets.{part}
+use Rattle.octets.specs.Refusals.{refusal_number}
+use Rattle.octets.specs.declared.refusal.Refusal.{Refusal}
 use Rattle.nlri.specs.declared.layout.Layout.{Layout}
 use Rattle.runs.specs.declared.stepping.Step.{Step}
-use Rattle.runs.specs.declared.stepping.Step.TheVariants.{Nlri, End, Refused}
 use Rattle.runs.specs.declared.walking.Walked.{Walked}
 use Rattle.nlri.specs.Family.{family_bits}
 use Rattle.nlri.specs.Layouts.{layout_at, no_layout}
@@ -47,11 +48,11 @@ step_under bits run at =
 unfoldable pub step_from : ℕ → List ℕ → ℕ → StepTaken
 step_from afi run at = on_outcome (λ number. refused_at number at) (λ bits. step_under bits run at) (family_bits afi)
 
--- the number and values of each case of `Step`
-unfoldable pub step_taken_of : Step → StepTaken
-step_taken_of (Nlri layout cursor) = read_to layout cursor.at
-step_taken_of (End cursor) = ended_at cursor.at
-step_taken_of (Refused number cursor) = refused_at number cursor.at
+-- the number and values of each case of a step's result; at the run's end and on a refusal the cursor given stays
+unfoldable pub step_taken_of : Result (Option Step) Refusal → (cursor : ℕ) → StepTaken
+step_taken_of (Ok (Some step)) cursor = read_to step.layout step.next.at
+step_taken_of (Ok None) cursor = ended_at cursor
+step_taken_of (Err refusal) cursor = refused_at (refusal_number refusal) cursor
 
 -- what a walk answers: the number and the offset of its stop, the count of NLRIs read before it, and the number of those skipped
 abbrev pub walked_with : (number count offset skipped : ℕ) → Walked

@@ -1,10 +1,12 @@
 // Runs of MCAST-VPN NLRIs, as MP_REACH_NLRI and MP_UNREACH_NLRI carry them: stepped through and walked.
 #![tactic(auto)]
 
+mod mode;
 mod stepping;
 mod turning;
 mod walking;
 
+pub use mode::Mode;
 pub use stepping::{Cursor, RUN, Step};
-pub use turning::{Mode, Turn, is_skipped, take_turn};
+pub use turning::Turn;
 pub use walking::{Walked, walk};

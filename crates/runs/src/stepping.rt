@@ -1,9 +1,9 @@
 // A step through a run of NLRIs.
 ghost use Rattle.std.specs.Prelude.{◌≡◌, ◌≤◌};
-ghost use Rattle.runs.specs.Walking.{advanced, step_taken_of, step_under, step_from};
+ghost use Rattle.runs.specs.Walking.{advanced, step_taken_of, step_from};
 
-use nlri::{AddressKind, Family, HEADER, Layout, Reading};
-use octets::number::{LONG, SHORT};
+use nlri::{HEADER, Layout};
+use octets::refusal::Refusal;
 
 // The most octets of a run.
 pub const RUN: usize = 4096;
@@ -14,52 +14,40 @@ pub struct Cursor {
     pub at: usize,
 }
 
-// The NLRI at the cursor with the cursor just past it, or the cursor given: at the run's end, or with the refusal's number.
+// An NLRI that a step has read, and the cursor just past it.
 #[derive(Clone, Copy)]
-pub enum Step {
-    Nlri(Layout, Cursor),
-    End(Cursor),
-    Refused(u32, Cursor),
+pub struct Step {
+    pub layout: Layout,
+    pub next: Cursor,
 }
 
 impl Cursor {
-    // The NLRI of the run at the cursor, with the next cursor.
-    pub fn step(self, afi: u16, run: &[u8]) -> Step
-        ensures { step_taken_of result ≡ step_from afi run.now self.at }
+    // The NLRI of the run at the cursor, with the next cursor; none at the run's end. FAMILY, LONG, SHORT for a cursor past the end, then what reading
+    // the NLRI refuses.
+    pub fn step(self, afi: u16, run: &[u8]) -> Result<Option<Step>, Refusal>
+        ensures { step_taken_of result self.at ≡ step_from afi run.now self.at }
     {
-        match nlri::family_of(afi) {
-            Family::Unknown(number) => Step::Refused(number, self),
-            Family::Known(kind) => step_under(kind, run, self.at),
+        let kind = nlri::family_of(afi)?;
+        if RUN < run.len() {
+            return Err(Refusal::Long);
         }
-    }
-}
-
-// The step from `at` under a family.
-fn step_under(kind: AddressKind, run: &[u8], at: usize) -> Step
-    ensures { step_taken_of result ≡ step_under kind.bits run.now at }
-{
-    if RUN < run.len() {
-        return Step::Refused(LONG, Cursor { at });
-    }
-    if at == run.len() {
-        return Step::End(Cursor { at });
-    }
-    if run.len() < at {
-        return Step::Refused(SHORT, Cursor { at });
-    }
-    match nlri::read_front(kind, octets::parts::after(run, at)) {
-        Reading::Refused(number) => Step::Refused(number, Cursor { at }),
-        Reading::Nlri(layout) => Step::Nlri(
+        if self.at == run.len() {
+            return Ok(None);
+        }
+        if run.len() < self.at {
+            return Err(Refusal::Short);
+        }
+        let layout = nlri::read_front(kind, octets::parts::after(run, self.at))?;
+        let at = past(self.at, layout.length);
+        Ok(Some(Step {
             layout,
-            Cursor {
-                at: advance(at, layout.length),
-            },
-        ),
+            next: Cursor { at },
+        }))
     }
 }
 
 // The place just past an NLRI that begins at `at` and has a body of `size` octets, by its Length.
-pub(crate) fn advance(at: usize, size: usize) -> usize
+pub(crate) fn past(at: usize, size: usize) -> usize
     requires { advanced at size ≤ 4096 }
     ensures { result ≡ advanced at size }
 {

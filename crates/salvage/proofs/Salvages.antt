@@ -7,7 +7,7 @@ use mathlib.Core.List.{List, [], ◌∷◌, ◌++◌}
 use native.Mathlib.Omega.{arith}
 use native.Mathlib.Numerals.{add-one}
 use native.Mathlib.Nat.{zero-add}
-use borrow.Author.Tests.{eq-eqb, ne_eqb, eqb-true, eqb-false}
+use borrow.Author.Tests.{eqb-true, eqb-false}
 use lib.Dec.{eqb}
 use lib.ListN.{length, drop, length-append}
 use Rattle.octets.specs.Numbers.{DONE, FAMILY, TABLE, SPACE}
@@ -16,12 +16,13 @@ use Rattle.octets.specs.Octets.{AllOctets, part, placed, front}
 use Rattle.octets.specs.Order.{all_zero}
 use Rattle.octets.proofs.Choice.{pick_true, pick-false, tested, opposite, either_true, either-false-left, either-false-right}
 use Rattle.octets.proofs.Lists.{length-placed, front-is-placed, placed-placed}
-use Rattle.routes.specs.declared.Salvaged.{Salvaged}
 use Rattle.routes.specs.Route.{Route, nlri_of, holds, inserted, arranged}
 use Rattle.routes.specs.Place.{end_in, route_in, place_sound}
 use Rattle.routes.specs.Table.{afi_in, count_in, places_in, routes_of, image_of, table_size, sound_of}
 use Rattle.routes.specs.Calls.{make_of}
-use Rattle.routes.specs.Salvage.{place_at, good_of, kept_routes, reason_of, reason_at, Dropped, dropped, dropped_of, dropped_octets, list_of, Salvage, empty_salvage, salvage_of, LeavesBoth}
+use Rattle.routes.specs.declared.DropReason.{DropReason}
+use Rattle.routes.specs.declared.DropReason.TheVariants.{Bad, Repeated}
+use Rattle.routes.specs.Salvage.{drop_octet, place_at, good_of, kept_routes, reason_of, reason_at, Dropped, dropped, dropped_of, dropped_octets, list_of, Salvage, empty_salvage, salvage_of, LeavesBoth}
 use Rattle.routes.specs.Rules.ArgumentRules.{KnownFamily}
 use Rattle.routes.specs.Rules.Images.{TableOf}
 use Rattle.routes.specs.Rules.SoundRule.{TableSize}
@@ -33,7 +34,7 @@ use Rattle.routes.proofs.Statements.Images.{images, sound, length-routes}
 use Rattle.routes.proofs.Statements.MakeRules.{make_rule, size_is, size-tested}
 use Rattle.routes.proofs.Statements.Salvaging.Refusals.{done_salvage, size-places, refuses, due, due-refused}
 use Rattle.changes.specs.Changing.{rank, first_is, added_at}
-use Rattle.salvage.specs.Salvaging.{with_good, with_place, with_dropped, count_with, Upto, Ready}
+use Rattle.salvage.specs.Salvaging.{with_good, with_place, Upto, Ready}
 use Rattle.places.proofs.Sounds.{sound-end}
 use Rattle.changes.proofs.Finds.{held_by}
 use Rattle.changes.proofs.Changes.{entered-new}
@@ -42,22 +43,23 @@ use Rattle.changes.proofs.Changes.{entered-new}
 pub good-end : (afi : ℕ) (place : List ℕ) → length place ≡ 128 → place_sound afi place ≡ true → end_in place ≤ length place
 good-end afi place l s = rw l (sound-end afi place s)
 
-module _ (t place n : List ℕ) (k : ℕ) (flag : Bool) (h : sound_of t ≡ true) (is : n ≡ nlri_of (route_in place)) (e : k ≡ rank n (routes_of t)) (f : flag ≡ first_is n (drop k (routes_of t))) where
-  held-flag : holds (nlri_of (route_in place)) (routes_of t) ≡ flag
-  held-flag = ap (λ (x : List ℕ). holds x (routes_of t)) (sym is) ∙ held_by t n k flag h e (sym f)
+-- by what the search answers
+module _ (t place n : List ℕ) (k : ℕ) (h : sound_of t ≡ true) (is : n ≡ nlri_of (route_in place)) (e : k ≡ rank n (routes_of t)) where
+  held-flag : (flag : Bool) → first_is n (drop k (routes_of t)) ≡ flag → holds (nlri_of (route_in place)) (routes_of t) ≡ flag
+  held-flag flag f = ap (λ (x : List ℕ). holds x (routes_of t)) (sym is) ∙ held_by t n k flag h e f
 
-  pub place-repeats : flag ≡ true → (◌≡◌ {A = ℕ} 2 (pick (holds (nlri_of (route_in place)) (routes_of t)) 2 0)) × (t ≡ with_good place t)
+  pub place-repeats : first_is n (drop k (routes_of t)) ≡ true → (◌≡◌ {A = ℕ} 2 (pick (holds (nlri_of (route_in place)) (routes_of t)) 2 0)) × (t ≡ with_good place t)
   unfolding with_good
-  place-repeats y = (sym (pick_true _ _ _ (held-flag ∙ y)), sym (pick_true _ _ _ (held-flag ∙ y)))
+  place-repeats y = (sym (pick_true _ _ _ (held-flag true y)), sym (pick_true _ _ _ (held-flag true y)))
 
-  pub place-enters : (u : List ℕ) (c : ℕ) → AllOctets t → length place ≡ 128 → place_sound (afi_in t) place ≡ true → c ≡ count_in t → count_in t < places_in t → flag ≡ false
+  pub place-enters : (u : List ℕ) (c : ℕ) → AllOctets t → length place ≡ 128 → place_sound (afi_in t) place ≡ true → c ≡ count_in t → count_in t < places_in t → first_is n (drop k (routes_of t)) ≡ false
       → u ≡ added_at k c place t → (◌≡◌ {A = ℕ} 0 (pick (holds (nlri_of (route_in place)) (routes_of t)) 2 0)) × (u ≡ with_good place t)
   unfolding with_good
   place-enters u c o l s d room y q =
       let i : u ≡ image_of (afi_in t) (places_in t) (inserted (route_in place) (routes_of t)) =
       entered-new t u k (route_in place) o h (length-acceptable-place (afi_in t) (route_in place) (sound-acceptable (afi_in t) place s)) (e ∙ ap (λ (x : List ℕ). rank x (routes_of t)) is)
-      (ap (λ (x : List ℕ). first_is x (drop k (routes_of t))) (sym is) ∙ sym f ∙ y) room (q ∙ ap₂ (λ (j : ℕ) (x : List ℕ). added_at k j x t) d (sound-place (afi_in t) place l s)) in
-      (sym (pick-false _ _ _ (held-flag ∙ y)), i ∙ sym (pick-false _ _ _ (held-flag ∙ y)))
+      (ap (λ (x : List ℕ). first_is x (drop k (routes_of t))) (sym is) ∙ y) room (q ∙ ap₂ (λ (j : ℕ) (x : List ℕ). added_at k j x t) d (sound-place (afi_in t) place l s)) in
+      (sym (pick-false _ _ _ (held-flag false y)), i ∙ sym (pick-false _ _ _ (held-flag false y)))
 
 -- a place looked at
 module _ (afi : ℕ) (place t : List ℕ) (flag : Bool) (f : flag ≡ place_sound afi place) where
@@ -77,15 +79,10 @@ module _ (afi : ℕ) (place t : List ℕ) (flag : Bool) (f : flag ≡ place_soun
     unfolding reason_of with_place
     looked-bad y = (sym (pick-false _ _ _ (sym f ∙ n) ∙ pick-false _ _ _ (sym z ∙ y)), sym (pick-false _ _ _ (sym f ∙ n)))
 
--- a place put into the list
-module _ (count number reason : ℕ) (list : List ℕ) where
-  pub enlisted-none : reason ≡ 0 → (count ≡ count_with count reason) × (list ≡ with_dropped count number reason list)
-  unfolding count_with with_dropped
-  enlisted-none e = (sym (pick_true _ _ _ (eq-eqb reason 0 e)), sym (pick_true _ _ _ (eq-eqb reason 0 e)))
-
-  pub enlisted-one : reason ≢ 0 → (y : List ℕ) → y ≡ placed (3 * count) (dropped_octets (dropped number reason)) list → (count + 1 ≡ count_with count reason) × (y ≡ with_dropped count number reason list)
-  unfolding count_with with_dropped
-  enlisted-one d y e = (sym (pick-false _ _ _ (ne_eqb reason 0 d)), e ∙ sym (pick-false _ _ _ (ne_eqb reason 0 d)))
+-- the octet of a reason is never that of none
+pub drop_octet-not_0 : (reason : DropReason) → drop_octet reason ≢ 0
+drop_octet-not_0 Bad e = cc
+drop_octet-not_0 Repeated e = cc
 
 -- place by place
 
@@ -152,37 +149,37 @@ module _ (afi : ℕ) (damaged list₀ : List ℕ) (n : ℕ) (t list : List ℕ) 
   next-reason : reason_of afi (place_at damaged n) (routes_of t) ≡ reason_at afi damaged n
   next-reason = ap (reason_of afi (place_at damaged n)) upto.routes ∙ reason_kept afi damaged n
 
-  next-list : (w : ℕ) → w ≡ reason_at afi damaged n → with_dropped count n w list ≡ front (list_of (dropped_of afi damaged (suc n))) list₀
-  unfolding with_dropped
-  next-list w e =
-      tested (eqb w 0)
-      (λ y. pick_true _ _ _ y ∙ u.listed ∙ ap (λ (ds : List Dropped). front (list_of ds) list₀) (sym (dropped-none afi damaged n (sym e ∙ eqb-true _ _ y))))
-      (λ y.
-      let ds : List Dropped = dropped_of afi damaged n in
-      let d : Dropped = dropped n w in
-      let a : length (list_of ds) ≡ 3 * count = length-list ds ∙ ap (λ (i : ℕ). 3 * i) (sym u.counted) in
-      let room : 0 + length (list_of ds) + length (dropped_octets d) ≤ length list₀ = (let b = dropped-most afi damaged n in let c = ready.room in omega (arith, length-list ds, length-dropped d)) in
-      let more : dropped_of afi damaged (suc n) ≡ ds ++ (d ∷ []) = dropped-one afi damaged n (λ z. eqb-false _ _ y (e ∙ z)) ∙ ap (λ (i : ℕ). ds ++ (dropped n i ∷ [])) (sym e) in
-      pick-false _ _ _ y ∙ ap₂ (λ (i : ℕ) (l : List ℕ). placed i (dropped_octets d) l) (sym a ∙ sym (zero-add (length (list_of ds)))) (u.listed ∙ front-is-placed (list_of ds) list₀)
-      ∙ placed-placed 0 (list_of ds) (dropped_octets d) list₀ room ∙ sym (front-is-placed (list_of ds ++ dropped_octets d) list₀)
-      ∙ ap (λ (l : List ℕ). front l list₀) (sym (list-last ds d)) ∙ ap (λ (es : List Dropped). front (list_of es) list₀) (sym more))
+  -- the reason of the next place, and the table with it
+  module _ (place : List ℕ) (w : ℕ) (t' : List ℕ) (e : place ≡ part damaged (8 + 128 * n) 128) (p : w ≡ reason_of afi place (routes_of t)) (q : t' ≡ with_place afi place t) where
+    reason-next : w ≡ reason_at afi damaged n
+    unfolding place_at
+    reason-next = p ∙ ap (λ (x : List ℕ). reason_of afi x (routes_of t)) e ∙ next-reason
 
-  next-count : (w : ℕ) → w ≡ reason_at afi damaged n → count_with count w ≡ length (dropped_of afi damaged (suc n))
-  unfolding count_with
-  next-count w e =
-      tested (eqb w 0) (λ y. pick_true _ _ _ y ∙ u.counted ∙ ap length (sym (dropped-none afi damaged n (sym e ∙ eqb-true _ _ y))))
-      (λ y.
-      pick-false _ _ _ y ∙ ap (λ (i : ℕ). i + 1) u.counted ∙ sym (length-append (dropped_of afi damaged n) (dropped n (reason_at afi damaged n) ∷ []))
-      ∙ ap length (sym (dropped-one afi damaged n (λ z. eqb-false _ _ y (e ∙ z)))))
+    table-next : t' ≡ image_of afi (places_in damaged) (kept_routes afi damaged (suc n))
+    unfolding place_at
+    table-next = q ∙ ap (λ (x : List ℕ). with_place afi x t) e ∙ next-table
 
-  pub upto_next : (place : List ℕ) (w : ℕ) (t' list' : List ℕ) (count' : ℕ) → place ≡ part damaged (8 + 128 * n) 128 → w ≡ reason_of afi place (routes_of t) → t' ≡ with_place afi place t
-      → count' ≡ count_with count w → list' ≡ with_dropped count n w list → Upto afi damaged list₀ (n + 1) t' list' count'
-  unfolding place_at
-  upto_next place w t' list' count' e p q i j =
-      let at : place ≡ place_at damaged n = e in
-      let v : w ≡ reason_at afi damaged n = p ∙ ap (λ (x : List ℕ). reason_of afi x (routes_of t)) at ∙ next-reason in
-      subst (λ (m : ℕ). Upto afi damaged list₀ m t' list' count') (sym (add-one n))
-      (record { kept = q ∙ ap (λ (x : List ℕ). with_place afi x t) at ∙ next-table; listed = j ∙ next-list w v; counted = i ∙ next-count w v })
+    -- with no reason to drop it
+    pub upto-keeps : w ≡ 0 → Upto afi damaged list₀ (n + 1) t' list count
+    upto-keeps z =
+        let same : dropped_of afi damaged n ≡ dropped_of afi damaged (suc n) = sym (dropped-none afi damaged n (sym reason-next ∙ z)) in
+        subst (λ (m : ℕ). Upto afi damaged list₀ m t' list count) (sym (add-one n))
+        (record { kept = table-next; listed = u.listed ∙ ap (λ (ds : List Dropped). front (list_of ds) list₀) same; counted = u.counted ∙ ap length same })
+
+    -- dropped
+    pub upto-drops : w ≢ 0 → (list' : List ℕ) → list' ≡ placed (3 * count) (dropped_octets (dropped n w)) list → Upto afi damaged list₀ (n + 1) t' list' (count + 1)
+    upto-drops y list' j =
+        let ds : List Dropped = dropped_of afi damaged n in
+        let d : Dropped = dropped n w in
+        let a : length (list_of ds) ≡ 3 * count = length-list ds ∙ ap (λ (i : ℕ). 3 * i) (sym u.counted) in
+        let room : 0 + length (list_of ds) + length (dropped_octets d) ≤ length list₀ = (let b = dropped-most afi damaged n in let c = ready.room in omega (arith, length-list ds, length-dropped d)) in
+        let more : dropped_of afi damaged (suc n) ≡ ds ++ (d ∷ []) = dropped-one afi damaged n (λ z. y (reason-next ∙ z)) ∙ ap (λ (i : ℕ). ds ++ (dropped n i ∷ [])) (sym reason-next) in
+        let listed : list' ≡ front (list_of (dropped_of afi damaged (suc n))) list₀ =
+        j ∙ ap₂ (λ (i : ℕ) (l : List ℕ). placed i (dropped_octets d) l) (sym a ∙ sym (zero-add (length (list_of ds)))) (u.listed ∙ front-is-placed (list_of ds) list₀)
+        ∙ placed-placed 0 (list_of ds) (dropped_octets d) list₀ room ∙ sym (front-is-placed (list_of ds ++ dropped_octets d) list₀)
+        ∙ ap (λ (l : List ℕ). front l list₀) (sym (list-last ds d)) ∙ ap (λ (es : List Dropped). front (list_of es) list₀) (sym more) in
+        subst (λ (m : ℕ). Upto afi damaged list₀ m t' list' (count + 1)) (sym (add-one n))
+        (record { kept = table-next; listed = listed; counted = ap (λ (i : ℕ). i + 1) u.counted ∙ sym (length-append ds (d ∷ [])) ∙ ap length (sym more) })
 
 -- the table just made, and all that is left when every place was looked at
 pub made-first : (afi : ℕ) (damaged list table u : List ℕ) → Ready afi damaged list → length table ≡ length damaged → u ≡ (make_of afi table).octets → u ≡ image_of afi (places_in damaged) (kept_routes afi damaged 0)
@@ -210,33 +207,33 @@ salvaged-all afi damaged table list t l k d ready e u c =
 
 -- the refusals, in order
 module _ (afi : ℕ) (damaged table list : List ℕ) (flag : Bool) (f : flag ≡ either (eqb afi 1) (eqb afi 2)) where
-  left : (n : ℕ) (r : Salvaged) → r ≡ empty_salvage n → SalvageRefusal afi damaged table list n → LeavesBoth (salvage_of afi damaged table list) r table list
-  left n r e x =
+  left : (n : ℕ) → SalvageRefusal afi damaged table list n → LeavesBoth (salvage_of afi damaged table list) (empty_salvage n) table list
+  left n x =
       let is = due-refused afi damaged table list n (refuses afi damaged table list x) in
-      (e ∙ sym (ap (λ (s : Salvage). s.answer) is), sym (ap (λ (s : Salvage). s.table) is), sym (ap (λ (s : Salvage). s.list) is))
+      (sym (ap (λ (s : Salvage). s.answer) is), sym (ap (λ (s : Salvage). s.table) is), sym (ap (λ (s : Salvage). s.list) is))
 
-  pub no-family : (r : Salvaged) → flag ≡ false → r ≡ empty_salvage FAMILY → LeavesBoth (salvage_of afi damaged table list) r table list
-  no-family r n e = left FAMILY r e (no_family (eqb-false _ _ (either-false-left _ _ (sym f ∙ n))) (eqb-false _ _ (either-false-right _ _ (sym f ∙ n))))
+  pub no-family : flag ≡ false → LeavesBoth (salvage_of afi damaged table list) (empty_salvage FAMILY) table list
+  no-family n = left FAMILY (no_family (eqb-false _ _ (either-false-left _ _ (sym f ∙ n))) (eqb-false _ _ (either-false-right _ _ (sym f ∙ n))))
 
   known : flag ≡ true → KnownFamily afi
   known y = ⊎_elim (λ a. inl (eqb-true _ _ a)) (λ a. inr (eqb-true _ _ a)) (either_true _ _ (sym f ∙ y))
 
   module _ (y : flag ≡ true) (sized : Bool) (g : sized ≡ table_size (length damaged)) where
-    pub no_size : (r : Salvaged) → sized ≡ false → r ≡ empty_salvage TABLE → LeavesBoth (salvage_of afi damaged table list) r table list
-    no_size r n e = left TABLE r e (bad_size (known y) (λ s. opposite (size-tested (length damaged) s) (sym g ∙ n)))
+    pub no_size : sized ≡ false → LeavesBoth (salvage_of afi damaged table list) (empty_salvage TABLE) table list
+    no_size n = left TABLE (bad_size (known y) (λ s. opposite (size-tested (length damaged) s) (sym g ∙ n)))
 
     module _ (z : sized ≡ true) where
-      pub other-size : (r : Salvaged) → length table ≢ length damaged → r ≡ empty_salvage SPACE → LeavesBoth (salvage_of afi damaged table list) r table list
-      other-size r d e = left SPACE r e (other_size (known y) (size_is damaged (sym g ∙ z)) d)
+      pub other-size : length table ≢ length damaged → LeavesBoth (salvage_of afi damaged table list) (empty_salvage SPACE) table list
+      other-size d = left SPACE (other_size (known y) (size_is damaged (sym g ∙ z)) d)
 
       pub places-few : places_in damaged ≤ 500
       places-few = (sound-size damaged (sym g ∙ z)).most
 
-      pub short-list : (r : Salvaged) (p : ℕ) → length table ≡ length damaged → p ≡ places_in damaged → length list < 3 * p → r ≡ empty_salvage SPACE → LeavesBoth (salvage_of afi damaged table list) r table list
-      short-list r p q i h e =
+      pub short-list : (p : ℕ) → length table ≡ length damaged → p ≡ places_in damaged → length list < 3 * p → LeavesBoth (salvage_of afi damaged table list) (empty_salvage SPACE) table list
+      short-list p q i h =
           let size = size_is damaged (sym g ∙ z) in
           let places = size-places damaged size in
-          left SPACE r e (short_list (known y) size q (omega arith))
+          left SPACE (short_list (known y) size q (omega arith))
 
       pub is-ready : (p : ℕ) → p ≡ places_in damaged → 3 * p ≤ length list → Ready afi damaged list
       is-ready p i h = record { family = known y; size = sym g ∙ z; room = omega arith }

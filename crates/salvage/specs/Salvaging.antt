@@ -1,12 +1,12 @@
 -- Definitions that mirror the functions of salvage; laws tie them to those of `routes`.
-use Rattle.std.specs.Prelude.{ℕ, ◌+◌, ◌*◌, ◌≤◌, ◌≡◌, true, List, length, eqb}
+use Rattle.std.specs.Prelude.{ℕ, ◌*◌, ◌≤◌, ◌≡◌, true, List, length}
 use Rattle.octets.specs.Choice.{pick}
-use Rattle.octets.specs.Octets.{placed, front}
+use Rattle.octets.specs.Octets.{front}
 use Rattle.routes.specs.Route.{nlri_of, holds, inserted}
 use Rattle.routes.specs.Place.{route_in, place_sound}
 use Rattle.routes.specs.Table.{image_of, afi_in, places_in, routes_of, table_size}
 use Rattle.routes.specs.Rules.ArgumentRules.{KnownFamily}
-use Rattle.routes.specs.Salvage.{kept_routes, dropped, dropped_of, dropped_octets, list_of}
+use Rattle.routes.specs.Salvage.{kept_routes, dropped_of, list_of}
 
 -- a table with the route of a good place, unless it holds its NLRI
 unfoldable pub with_good : (place table : List ℕ) → List ℕ
@@ -15,14 +15,6 @@ with_good place t = pick (holds (nlri_of (route_in place)) (routes_of t)) t (ima
 -- a table with what a place adds to it
 unfoldable pub with_place : (afi : ℕ) (place table : List ℕ) → List ℕ
 with_place afi place t = pick (place_sound afi place) (with_good place t) t
-
--- a list's buffer with one more place, where there is a reason
-unfoldable pub with_dropped : (count number reason : ℕ) (list : List ℕ) → List ℕ
-with_dropped count number reason list = pick (eqb reason 0) list (placed (3 * count) (dropped_octets (dropped number reason)) list)
-
--- and how many it has then
-unfoldable pub count_with : (count reason : ℕ) → ℕ
-count_with count reason = pick (eqb reason 0) count (count + 1)
 
 -- salvage as far as a number of places
 pub record Upto (afi : ℕ) (damaged list₀ : List ℕ) (number : ℕ) (table list : List ℕ) (count : ℕ) : Type 0 where

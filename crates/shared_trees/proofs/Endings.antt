@@ -53,8 +53,8 @@ module _ {size count left : ℕ} {states : List ℕ} (last : StatesLeft size cou
   pub left_here : StateStands size (drop (start_of_last size count left) states)
   left_here = record { whole = going-here every-left more; sized = going-every (state_sized (8 * size)) every-left last.sized more; least = last.least }
 
-  pub left-within : start_of_last size count left + 4 + 2 * size ≤ length states
-  left-within = state-within size states _ left_here
+  pub left_within : start_of_last size count left + 4 + 2 * size ≤ length states
+  left_within = state-within size states _ left_here
 
   pub next_start : drop (start_of_last size count (left - 1)) states ≡ after_item 2 (drop (start_of_last size count left) states)
   next_start =

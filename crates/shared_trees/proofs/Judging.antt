@@ -3,7 +3,12 @@ use Prim.Native.Nat.{ℕ, ◌*◌, ◌/◌, ◌≤◌, ◌<◌}
 use mathlib.Core.Path.{◌≡◌, refl, sym, ◌∙◌, ap, ap₂}
 use mathlib.Core.Bool.{Bool, true, false, not}
 use mathlib.Core.List.{List}
-use mathlib.Core.Logic.{◌⊎◌, inl, inr}
+use mathlib.Core.Logic.{◌⊎◌, inl, inr, ⊎_elim}
+use Rattle.std.proofs.Common.{Result, Ok, Err}
+use Rattle.octets.specs.declared.refusal.Refusal.{Refusal}
+use Rattle.octets.specs.Refusals.{refusal_number, result_number}
+use Rattle.octets.proofs.Refusals.{refusal_number-not_done}
+use Rattle.nlri.specs.declared.group.GroupClass.{GroupClass}
 use native.Mathlib.Omega.{arith}
 use borrow.Author.Tests.{eqb-true, eqb-false, eq-eqb, ne_eqb, not-true}
 use lib.Dec.{leb, eqb}
@@ -11,46 +16,20 @@ use lib.ListN.{length}
 use Rattle.octets.specs.Numbers.{DONE, SHORT, LONG, FLOW}
 use Rattle.octets.specs.Choice.{pick, both}
 use Rattle.octets.specs.Outcome.{Outcome, given, refused, and_then}
-use Rattle.octets.proofs.Choice.{pick_true, pick-false, pick-case, tested, opposite, both_true, both-true-left, both-true-right}
-use Rattle.octets.proofs.Outcome.{Refuses, value, number, refuses-pick, refuses-then, refuses-also, and-goes-on, and-stops, given-unless, passed, given-same}
+use Rattle.octets.proofs.Choice.{pick_true, pick-false, tested, opposite, both_true, both-true-left, both-true-right}
+use Rattle.octets.proofs.Outcome.{and-goes-on, and-stops, given-unless, passed, given-same, refused-same, never}
 use Rattle.lists.specs.LentLists.{Item, list_count, whole_list, list_items, read_list, every_item}
-use Rattle.nlri.specs.declared.group.Group.{Group}
-use Rattle.nlri.specs.Family.{family_bits, is_originator_size}
-use Rattle.nlri.specs.Groups.{class_under, group_of}
-use Rattle.groups.specs.Prefixes.{read_prefixes}
+use Rattle.nlri.specs.Family.{is_originator_size}
+use Rattle.nlri.specs.Groups.{class_under, class_number, class_outcome}
 use Rattle.groups.specs.Classes.{class_in, class_by}
-use Rattle.groups.proofs.ClassFirst.{Read, early-stops, class-refuses, class-flow, class-sized, class-early, class-read}
+use Rattle.groups.proofs.ClassFirst.{Read, early-stops, refused-early, refused-flow, given-read, class-sized}
 use Rattle.nlri.proofs.Definitions.Lengths.{family-octets, originator-sized}
 use Rattle.nlri.proofs.Definitions.Families.{family-least}
-use Rattle.nlri.proofs.Definitions.Groups.{group-refused, group-given}
 use Rattle.routes.specs.SharedTree.{SharedTree, MOST_ITEMS, originator_sized, state_sized, source_active_fault, judged_tree}
 use Rattle.shared_trees.specs.declared.TreeFacts.{TreeFacts}
 use Rattle.shared_trees.specs.Tree.{tree_of}
 use Rattle.shared_trees.specs.Told.{lists_fault, tree_addresses_sized, whole_fault, is_early, ListsJudged}
 use Rattle.shared_trees.proofs.SourceActives.{all-bounded}
-
--- no refusal of a shared tree is DONE
-tree-refuses : (afi : ℕ) (tree : SharedTree) → Refuses (λ n. n ≡ DONE → ⊥) (judged_tree afi tree)
-unfolding judged_tree read_prefixes read_list family_bits class_in class_under
-tree-refuses afi tree =
-    refuses-then _ _ (refuses-pick _ _ _ value (refuses-pick _ _ _ value (number (λ e. omega arith))))
-    (λ bits. refuses-then _ _ (refuses-pick _ _ _ (refuses-then _ _ (refuses-pick _ _ _ value (number (λ e. omega arith))) (λ items. refuses-pick _ _ _ value (number (λ e. omega arith)))) (number (λ e. omega arith)))
-    (λ items. refuses-pick _ _ _ (refuses-pick _ _ _
-    (refuses-then _ _ (refuses-pick _ _ _ value (number (λ e. omega arith)))
-    (λ a. refuses-then _ _ (refuses-pick _ _ _ value (number (λ e. omega arith)))
-    (λ b. refuses-pick _ _ _ (refuses-pick _ _ _ (refuses-pick _ _ _
-    (refuses-then _ _ (refuses-then _ _ (refuses-pick _ _ _ (refuses-pick _ _ _ (refuses-pick _ _ _ value value) (number (λ e. omega arith))) (number (λ e. omega arith))) (λ standard. value))
-    (λ class. pick-case (Refuses (λ n. n ≡ DONE → ⊥)) _ _ _ (λ done. value) (λ fault. number (eqb-false _ _ fault))))
-    (number (λ e. omega arith))) (number (λ e. omega arith))) (number (λ e. omega arith)))))
-    (number (λ e. omega arith))) (number (λ e. omega arith))))
-
--- what the function answers with DONE is the class, and any other number the refusal's
-module _ (afi : ℕ) (tree : SharedTree) (class : Group) (is : class ≡ group_of (judged_tree afi tree)) where
-  pub tree-refused : (class.number ≡ DONE → ⊥) → judged_tree afi tree ≡ refused class.number
-  tree-refused h = group-refused _ class is h
-
-  pub tree-given : class.number ≡ DONE → judged_tree afi tree ≡ given class.group_class
-  tree-given h = group-given _ class is (tree-refuses afi tree) h
 
 -- what a shared tree that is not refused is: its lists and their NLRIs as `is_eligible` asks, a group, and a router address of four octets or more
 pub record Accepted (afi : ℕ) (tree : SharedTree) : Type 0 where
@@ -170,54 +149,56 @@ module _ (afi : ℕ) (tree : SharedTree) (r : Read afi tree.prefixes) where
         let same : fault ≡ FLOW = told ∙ pick-false _ _ _ f in
         pick-false _ _ _ f ∙ sym (ap (λ (n : ℕ). pick (eqb n DONE) (given class) (refused n)) same ∙ pick-false _ _ _ (ne_eqb FLOW DONE (λ e. omega arith))))
 
--- a number that is not early
-early-either : (n : ℕ) (flag : Bool) → flag ≡ is_early n → flag ≡ false → (n ≡ DONE) ⊎ (n ≡ FLOW)
+-- a class that waits for the lists: it is told, or refused with FLOW
+abbrev Late : Outcome ℕ → Type 0
+Late o = (refused FLOW ≡ o) ⊎ ((class : ℕ) × (given class ≡ o))
+
+pub late-class : (class : Result GroupClass Refusal) (flag : Bool) → flag ≡ is_early (result_number class) → flag ≡ false → (o : Outcome ℕ) → class_outcome class ≡ o → Late o
 unfolding is_early
-early-either n flag told h =
-    tested (eqb n DONE) (λ t. inl (eqb-true _ _ t))
-    (λ f. tested (eqb n FLOW) (λ t. inr (eqb-true _ _ t)) (λ g. absurd (opposite (both_true _ _ (ap not f) (ap not g)) (sym told ∙ h))))
+late-class (Ok k) flag told h o e = inr (class_number k, e)
+late-class (Err x) flag told h o e =
+    tested (eqb (refusal_number x) FLOW) (λ t. inl (ap refused (sym (eqb-true _ _ t)) ∙ e))
+    (λ f. absurd (opposite (both_true _ _ (ap not (ne_eqb _ _ (refusal_number-not_done x))) (ap not f)) (sym told ∙ h)))
 
 -- the branches of the function
-module _ (afi : ℕ) (prefixes router group source_actives states : List ℕ) (class : Group) (is : class ≡ group_of (class_by afi prefixes group)) (flag : Bool) (told : flag ≡ is_early class.number) where
-  pub tree-early : flag ≡ true → (facts : TreeFacts) → class ≡ group_of (judged_tree afi (tree_of prefixes router group facts source_actives states))
+module _ (afi : ℕ) (prefixes router group source_actives states : List ℕ) where
+  -- every shared tree that is told so
+  abbrev Comes : Outcome ℕ → Type 0
+  Comes o = (facts : TreeFacts) → o ≡ judged_tree afi (tree_of prefixes router group facts source_actives states)
+
+  pub tree-early : (class : Result GroupClass Refusal) → class_outcome class ≡ class_by afi prefixes group → (flag : Bool) → flag ≡ is_early (result_number class) → flag ≡ true → Comes (class_outcome class)
   unfolding judged_tree tree_of is_early
-  tree-early h facts =
-      let t = sym told ∙ h in
-      let some : class.number ≡ DONE → ⊥ = eqb-false _ _ (not-true _ (both-true-left _ _ t)) in
-      let other : class.number ≡ FLOW → ⊥ = eqb-false _ _ (not-true _ (both-true-right _ _ t)) in
-      let early = class-early afi prefixes group class is some other in
-      is ∙ ap group_of (group-refused _ class is some ∙ early-stops afi prefixes _ early)
+  tree-early (Ok k) is flag told h facts = absurd (opposite (both-true-left _ _ (sym told ∙ h)) refl)
+  tree-early (Err x) is flag told h facts =
+      early-stops afi prefixes _ (refused-early afi prefixes group _ (sym is) (eqb-false _ _ (not-true _ (both-true-right _ _ (sym told ∙ h)))))
 
-  module _ (late : flag ≡ false) (fault : ℕ) (lists : fault ≡ lists_fault source_actives states) where
-    under : (r : Read afi prefixes) × (class ≡ group_of (class_in r.bits r.items group))
-    under = class-read afi prefixes group class is (early-either _ flag told late)
+  module _ (late : Late (class_by afi prefixes group)) where
+    prefixes-read : Read afi prefixes
+    prefixes-read = ⊎_elim (λ e. (refused-flow afi prefixes group (sym e)).0) (λ e. (given-read afi prefixes group e.0 (sym e.1)).0) late
 
-    pub tree_lists : (fault ≡ DONE → ⊥) → (r : Group) → r ≡ group_of (refused fault) → (facts : TreeFacts) → r ≡ group_of (judged_tree afi (tree_of prefixes router group facts source_actives states))
+    pub tree_lists : (n : ℕ) → n ≡ lists_fault source_actives states → (n ≡ DONE → ⊥) → Comes (refused n)
     unfolding tree_of
-    tree_lists h r q facts = q ∙ ap group_of (sym (lists-stop afi (tree_of prefixes router group facts source_actives states) under.0 fault lists h))
+    tree_lists n told h facts = sym (lists-stop afi (tree_of prefixes router group facts source_actives states) prefixes-read n told h)
 
-    module _ (whole : fault ≡ DONE) where
-      pub tree-group : (class.number ≡ DONE → ⊥) → (facts : TreeFacts) → class ≡ group_of (judged_tree afi (tree_of prefixes router group facts source_actives states))
+    module _ (whole : DONE ≡ lists_fault source_actives states) where
+      pub tree-group : (n : ℕ) → refused n ≡ class_by afi prefixes group → Comes (refused n)
       unfolding tree_of
-      tree-group h facts =
-          let r = under.0 in
-          let e : class_in r.bits r.items group ≡ refused class.number = group-refused _ class under.1 h in
-          let flow : class_in r.bits r.items group ≡ refused FLOW = e ∙ ap refused (class-flow r.bits r.items group _ e) in
-          under.1 ∙ ap group_of (flow ∙ sym (group-stop afi (tree_of prefixes router group facts source_actives states) r (sym lists ∙ whole) flow))
+      tree-group n is facts =
+          let flow : n ≡ FLOW = ⊎_elim (λ e. refused-same (is ∙ sym e)) (λ e. absurd (never (sym e.1) (sym is))) late in
+          let r = refused-flow afi prefixes group (sym is ∙ ap refused flow) in
+          ap refused flow ∙ sym (group-stop afi (tree_of prefixes router group facts source_actives states) r.0 (sym whole) r.1)
 
-      module _ (done : class.number ≡ DONE) (last : ℕ) (rest : last ≡ whole_fault afi (8 * length group) router source_actives states) where
-        class-given : class_in under.0.bits under.0.items group ≡ given class.group_class
-        class-given = let r = under.0 in group-given _ class under.1 (refuses-also (λ n f e. omega arith) (class-refuses r.bits r.items group)) done
+  module _ (whole : DONE ≡ lists_fault source_actives states) (class : ℕ) (is : given class ≡ class_by afi prefixes group) where
+    by-class : (last : ℕ) → last ≡ whole_fault afi (8 * length group) router source_actives states → Comes (pick (eqb last DONE) (given class) (refused last))
+    unfolding tree_of
+    by-class last rest facts =
+        let u = given-read afi prefixes group class (sym is) in
+        let r = u.0 in
+        let all = class-sized afi r.bits r.of_family r.items group class u.1 in
+        sym (group-goes afi (tree_of prefixes router group facts source_actives states) r (sym whole) class u.1 last (rest ∙ ap (λ (n : ℕ). whole_fault afi n router source_actives states) all))
 
-        by-class : (facts : TreeFacts) → judged_tree afi (tree_of prefixes router group facts source_actives states) ≡ pick (eqb last DONE) (given class.group_class) (refused last)
-        unfolding tree_of
-        by-class facts =
-            let r = under.0 in
-            let all = class-sized afi r.bits r.of_family r.items group _ class-given in
-            group-goes afi (tree_of prefixes router group facts source_actives states) r (sym lists ∙ whole) _ class-given last (rest ∙ ap (λ (n : ℕ). whole_fault afi n router source_actives states) all)
+    pub tree-fault : (n : ℕ) → n ≡ whole_fault afi (8 * length group) router source_actives states → (n ≡ DONE → ⊥) → Comes (refused n)
+    tree-fault n rest h facts = sym (pick-false _ _ _ (ne_eqb _ _ h)) ∙ by-class n rest facts
 
-        pub tree-fault : (last ≡ DONE → ⊥) → (r : Group) → r ≡ group_of (refused last) → (facts : TreeFacts) → r ≡ group_of (judged_tree afi (tree_of prefixes router group facts source_actives states))
-        tree-fault h r q facts = q ∙ ap group_of (sym (by-class facts ∙ pick-false _ _ _ (ne_eqb _ _ h)))
-
-        pub tree-done : last ≡ DONE → (facts : TreeFacts) → class ≡ group_of (judged_tree afi (tree_of prefixes router group facts source_actives states))
-        tree-done h facts = under.1 ∙ ap group_of (class-given ∙ sym (by-class facts ∙ pick_true _ _ _ (eq-eqb _ _ h)))
+    pub tree-done : DONE ≡ whole_fault afi (8 * length group) router source_actives states → Comes (given class)
+    tree-done rest facts = sym (pick_true _ _ _ refl) ∙ by-class DONE rest facts

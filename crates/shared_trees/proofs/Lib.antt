@@ -3,5 +3,6 @@ pub mod Sized
 pub mod States
 pub mod SourceActives
 pub mod Endings
+mod Early
 pub mod Judging
 pub mod TreeRule

@@ -16,7 +16,7 @@ use Rattle.octets.proofs.Choice.{pick_true, pick-false, opposite, is_true, both_
 use Rattle.octets.proofs.Outcome.{value, number, Refuses, refuses-also, refuses-pick, refuses-then, refuses-by, done-given, on-given}
 use Rattle.lists.specs.LentLists.{Item, item_field, front_item, after_item, list_items, first_item, every_item, some_item}
 use Rattle.lists.proofs.Going.{Going, going_next, going-stop}
-use Rattle.lists.proofs.Fields.{item-field-of}
+use Rattle.lists.proofs.Along.{every-stop}
 use Rattle.nlri.specs.Fields.{Fields}
 use Rattle.nlri.specs.Standing.{group_end, standing}
 use Rattle.nlri.proofs.Definitions.ReadNumbers.{refuses-nlri}
@@ -26,8 +26,8 @@ use Rattle.routes.specs.SharedTree.{SharedTree, read_source_active, source_activ
 use Rattle.shared_trees.specs.Told.{FieldsWithin, fields_within, without_state, without_state_at}
 
 -- the number of an item's NLRI
-pub number-of : (afi n : ℕ) (nlri s : List ℕ) → n ≡ number_of (read_of_type 5 afi nlri) → nlri ≡ item_field 1 (front_item 2 s) → n ≡ number_of (read_of_type 5 afi (item_field 1 (front_item 2 s)))
-number-of afi n nlri s e q = e ∙ ap (λ (x : List ℕ). number_of (read_of_type 5 afi x)) q
+pub number-of : (afi n : ℕ) (nlri : List ℕ) (x : Item) → n ≡ number_of (read_of_type 5 afi nlri) → nlri ≡ item_field 1 x → n ≡ number_of (read_of_type 5 afi (item_field 1 x))
+number-of afi n nlri x e q = e ∙ ap (λ (s : List ℕ). number_of (read_of_type 5 afi s)) q
 
 -- the fields of a Source Active NLRI that is read are those that stand in it
 module _ (afi : ℕ) (s : List ℕ) (f : Fields) (e : read_of_type 5 afi s ≡ given f) where
@@ -96,10 +96,14 @@ module _ (test : Item → Bool) {fields : ℕ} {items : List Item} {left : ℕ} 
       → Going fields items (first_item (λ x. not (test x)) (λ x. false) true) (first_item (λ x. not (test x)) (λ x. false) true) (left - 1) t'
   going-every-next t' e = going_next (λ x. not (test x)) (λ x. false) true going more (ap not going-every) t' e
 
+-- every item that is left meets a test, and so does the next of them
+pub every-first : (test : Item → Bool) {x : Item} {items rest : List Item} → true ≡ every_item test items → items ≡ x ∷ rest → test x ≡ true
+every-first test e s = is_true _ (λ off. opposite refl (sym (every-stop test e s off)))
+
 -- an item's source and group stand in its NLRI
-pub item-bounded : (s nlri : List ℕ) → nlri ≡ item_field 1 (front_item 2 s) → fields_within (front_item 2 s) ≡ true → FieldsWithin nlri
+pub item-bounded : (x : Item) (nlri : List ℕ) → nlri ≡ item_field 1 x → fields_within x ≡ true → FieldsWithin nlri
 unfolding fields_within
-item-bounded s nlri e b = rw e (record { within = leb-true _ _ b })
+item-bounded x nlri e b = rw e (record { within = leb-true _ _ b })
 
 -- what the branches show
 module _ (group states nlri field : List ℕ) (is : field ≡ (standing nlri).group) (flag : Bool) (told : flag ≡ same field group) where
@@ -112,15 +116,15 @@ module _ (group states nlri field : List ℕ) (is : field ≡ (standing nlri).gr
   without-none h source e has q =
       both-last _ _ _ (ap (λ (x : List ℕ). same x group) (sym is) ∙ flag-on _ _ told h) (ap not (q ∙ ap (λ (x : List ℕ). some_item (is_state x group) (list_items 2 states)) e))
 
-module _ (router group states s field : List ℕ) (is : field ≡ item_field 0 (front_item 1 s)) (flag : Bool) (told : flag ≡ same field router) where
-  originator-is : same (item_field 0 (front_item 2 s)) router ≡ flag
-  originator-is = ap (λ (x : List ℕ). same x router) (sym (item-field-of 0 2 s field is (omega arith))) ∙ sym told
+module _ (router group states : List ℕ) (x : Item) (field : List ℕ) (is : field ≡ item_field 0 x) (flag : Bool) (told : flag ≡ same field router) where
+  originator-is : same (item_field 0 x) router ≡ flag
+  originator-is = ap (λ (f : List ℕ). same f router) (sym is) ∙ sym told
 
-  pub lacks-other : not flag ≡ true → false ≡ without_state_at router group states (front_item 2 s)
+  pub lacks-other : not flag ≡ true → false ≡ without_state_at router group states x
   unfolding without_state_at
   lacks-other h = sym (both_left _ _ (originator-is ∙ flag_off _ _ refl h))
 
-  pub lacks-here : not flag ≡ false → (nlri : List ℕ) → nlri ≡ item_field 1 (front_item 2 s) → (r : Bool) → r ≡ without_state group states nlri → r ≡ without_state_at router group states (front_item 2 s)
+  pub lacks-here : not flag ≡ false → (nlri : List ℕ) → nlri ≡ item_field 1 x → (r : Bool) → r ≡ without_state group states nlri → r ≡ without_state_at router group states x
   unfolding without_state_at
   lacks-here h nlri e r q = both-last _ _ _ (originator-is ∙ flag-on _ _ refl h) (q ∙ ap (without_state group states) e)
 

@@ -9,6 +9,7 @@ ghost use Rattle.shared_trees.specs.Told.{FieldsWithin, fields_within, Ending, s
 
 use crate::{FIELDS, TreeFacts};
 use lists::FIRST;
+use lists::item::Item;
 use nlri::standing;
 use octets::{order, wide};
 
@@ -24,6 +25,7 @@ fn ending_in(nlri: &[u8]) -> u32
 }
 
 // A state has this source and this group.
+#[tactic(auto, using(lists::proofs::Going::going), unfolding(routes::specs::SharedTree::is_state))]
 fn is_state(list: &[u8], at: usize, source: &[u8], group: &[u8]) -> bool
     requires { whole_item 2 (drop at list.now) ≡ true }
     ensures { result ≡ is_state source.now group.now (front_item 2 (drop at list.now)) }
@@ -35,6 +37,7 @@ fn is_state(list: &[u8], at: usize, source: &[u8], group: &[u8]) -> bool
 }
 
 // Where the last `left` of `count` states start: the source and the group of each have `size` octets.
+#[tactic(auto, using(crate::proofs::Endings::left_within), unfolding(crate::specs::Told::start_of_last))]
 fn start_of_last(states: &[u8], count: usize, left: usize, size: usize) -> usize
     requires { StatesLeft size count left states.now × (0 < left) }
     ensures { result ≡ start_of_last size count left }
@@ -44,6 +47,7 @@ fn start_of_last(states: &[u8], count: usize, left: usize, size: usize) -> usize
 
 // Of the last states, how many are left from the first one on whose source has this ending. The ending tells most states apart, in
 // a loop that compares nothing else.
+#[tactic(auto, using(crate::proofs::Endings::left_within))]
 fn left_from_ending(states: &[u8], count: usize, left: usize, size: usize, ending: u32) -> usize
     requires { StatesLeft size count left states.now × (0 < left) }
     ensures { Passed size count ending left result states.now }
@@ -100,29 +104,26 @@ fn is_without_state(nlri: &[u8], group: &[u8], states: &[u8]) -> bool
 }
 
 // A Source Active route for the group, originated by the PE, to whose (C-S,C-G) no state corresponds.
-fn lacks_state(list: &[u8], at: usize, router: &[u8], group: &[u8], states: &[u8]) -> bool
-    requires { (whole_item 2 (drop at list.now) ≡ true) × (fields_within (front_item 2 (drop at list.now)) ≡ true) × StatesSized (length group.now) states.now }
-    ensures { result ≡ without_state_at router.now group.now states.now (front_item 2 (drop at list.now)) }
+fn lacks_state(source_active: &Item<'_, FIELDS>, router: &[u8], group: &[u8], states: &[u8]) -> bool
+    requires { (fields_within source_active.now ≡ true) × StatesSized (length group.now) states.now }
+    ensures { result ≡ without_state_at router.now group.now states.now source_active.now }
 {
-    if !order::is_same(lists::item_field(list, at, 0), router) {
+    if !order::is_same(source_active.field(0), router) {
         return false;
     }
-    is_without_state(lists::item_field(list, at, 1), group, states)
+    is_without_state(source_active.field(1), group, states)
 }
 
 // Some Source Active route is one.
-fn has_source(list: &[u8], router: &[u8], group: &[u8], states: &[u8]) -> bool
-    requires { ListsJudged (length group.now) list.now states.now }
-    ensures { result ≡ some_item (without_state_at router.now group.now states.now) (list_items 2 list.now) }
+#[tactic(auto, using(lists::proofs::Along::along))]
+fn has_source(source_actives: &[u8], router: &[u8], group: &[u8], states: &[u8]) -> bool
+    requires { ListsJudged (length group.now) source_actives.now states.now }
+    ensures { result ≡ some_item (without_state_at router.now group.now states.now) (list_items 2 source_actives.now) }
 {
-    let mut at = FIRST;
-    let mut left = lists::count_of(list);
-    while 0 < left {
-        if lacks_state(list, at, router, group, states) {
+    for item in lists::items_of::<FIELDS>(source_actives) {
+        if lacks_state(&item, router, group, states) {
             return true;
         }
-        at = lists::after_item(list, at, FIELDS);
-        left -= 1;
     }
     false
 }

@@ -1,91 +1,54 @@
 // The refusals of a match for a shared tree between TABLE and SPACE, in their order.
-ghost use Rattle.std.specs.Prelude.{◌≡◌, true, ◌*◌, drop};
+ghost use Rattle.std.specs.Prelude.{◌≡◌, true, ◌*◌};
 ghost use Rattle.octets.specs.Outcome.{number_of};
-ghost use Rattle.lists.specs.LentLists.{front_item, whole_item, whole_list, list_items, every_item};
-ghost use Rattle.nlri.specs.Groups.{group_of};
+ghost use Rattle.octets.specs.Refusals.{result_number};
+ghost use Rattle.lists.specs.LentLists.{whole_list, list_items};
+ghost use Rattle.nlri.specs.Groups.{class_outcome};
 ghost use Rattle.routes.specs.SharedTree.{originator_sized, state_sized, read_source_active, source_active_fault, judged_tree};
 ghost use Rattle.shared_trees.specs.declared.TreeFacts.{TreeFacts};
 ghost use Rattle.shared_trees.specs.Tree.{tree_of};
 ghost use Rattle.shared_trees.specs.Told.{lists_fault, tree_addresses_sized, whole_fault, is_early};
 
 use crate::FIELDS;
-use lists::FIRST;
-use nlri::{Group, RouteType};
-use octets::number::{DONE, FLOW, LONG, SHORT};
+use lists::item::Item;
+use nlri::{GroupClass, RouteType};
+use octets::refusal::Refusal;
 
 // The most items of either list.
 const MOST_ITEMS: usize = 256;
 
 // LONG for a count over the limit in either list, SHORT for either that ends before its items do.
-fn lists_fault(source_actives: &[u8], states: &[u8]) -> u32
-    ensures { result ≡ lists_fault source_actives.now states.now }
+#[tactic(auto, using(octets::proofs::Tests::refusals, crate::proofs::Sized::count_over, crate::proofs::Sized::count_within), unfolding(crate::specs::Told::lists_fault))]
+fn check_lists(source_actives: &[u8], states: &[u8]) -> Result<(), Refusal>
+    ensures { result_number result ≡ lists_fault source_actives.now states.now }
 {
     if MOST_ITEMS < lists::count_of(source_actives) {
-        return LONG;
+        return Err(Refusal::Long);
     }
     if MOST_ITEMS < lists::count_of(states) {
-        return LONG;
+        return Err(Refusal::Long);
     }
     if !lists::is_whole(source_actives, FIELDS) {
-        return SHORT;
+        return Err(Refusal::Short);
     }
     if !lists::is_whole(states, FIELDS) {
-        return SHORT;
+        return Err(Refusal::Short);
     }
-    DONE
+    Ok(())
 }
 
 // A Source Active route comes with an originator of 4 or 16 octets.
-fn is_originator_sized(list: &[u8], at: usize) -> bool
-    requires { whole_item 2 (drop at list.now) ≡ true }
-    ensures { result ≡ originator_sized (front_item 2 (drop at list.now)) }
+fn is_originator_sized(source_active: &Item<'_, FIELDS>) -> bool
+    ensures { result ≡ originator_sized source_active.now }
 {
-    nlri::is_originator_size(lists::item_field(list, at, 0).len())
-}
-
-// Every Source Active route does.
-fn are_originators_sized(list: &[u8]) -> bool
-    requires { whole_list 2 list.now ≡ true }
-    ensures { result ≡ every_item originator_sized (list_items 2 list.now) }
-{
-    let mut at = FIRST;
-    let mut left = lists::count_of(list);
-    while 0 < left {
-        if !is_originator_sized(list, at) {
-            return false;
-        }
-        at = lists::after_item(list, at, FIELDS);
-        left -= 1;
-    }
-    true
+    nlri::is_originator_size(source_active.field(0).len())
 }
 
 // Source and group of a state have so many octets.
-fn is_state_sized(list: &[u8], at: usize, size: usize) -> bool
-    requires { whole_item 2 (drop at list.now) ≡ true }
-    ensures { result ≡ state_sized (8 * size) (front_item 2 (drop at list.now)) }
+fn is_state_sized(state: &Item<'_, FIELDS>, size: usize) -> bool
+    ensures { result ≡ state_sized (8 * size) state.now }
 {
-    if lists::item_field(list, at, 0).len() != size {
-        return false;
-    }
-    lists::item_field(list, at, 1).len() == size
-}
-
-// Those of every state do.
-fn are_states_sized(list: &[u8], size: usize) -> bool
-    requires { whole_list 2 list.now ≡ true }
-    ensures { result ≡ every_item (state_sized (8 * size)) (list_items 2 list.now) }
-{
-    let mut at = FIRST;
-    let mut left = lists::count_of(list);
-    while 0 < left {
-        if !is_state_sized(list, at, size) {
-            return false;
-        }
-        at = lists::after_item(list, at, FIELDS);
-        left -= 1;
-    }
-    true
+    state.field(0).len() == size && state.field(1).len() == size
 }
 
 // The addresses but for the group asked: 4 or 16 octets of the PE and of every originator, `size` octets in every state.
@@ -96,58 +59,58 @@ fn are_addresses_sized(size: usize, router: &[u8], source_actives: &[u8], states
     if !nlri::is_originator_size(router.len()) {
         return false;
     }
-    if !are_originators_sized(source_actives) {
+    let mut source_actives = lists::items_of::<FIELDS>(source_actives);
+    if !source_actives.all(|item| is_originator_sized(&item)) {
         return false;
     }
-    are_states_sized(states, size)
+    let mut states = lists::items_of::<FIELDS>(states);
+    states.all(|item| is_state_sized(&item, size))
 }
 
-// The NLRI of an item that is to be a Source Active route.
-fn item_fault(afi: u16, list: &[u8], at: usize) -> u32
-    requires { whole_item 2 (drop at list.now) ≡ true }
-    ensures { result ≡ number_of (read_source_active afi (front_item 2 (drop at list.now))) }
+// The NLRI of an item is that of a Source Active route.
+fn check_source_active(afi: u16, item: &Item<'_, FIELDS>) -> Result<(), Refusal>
+    ensures { result_number result ≡ number_of (read_source_active afi item.now) }
 {
-    nlri::fault_of_type(
-        afi,
-        RouteType::SOURCE_ACTIVE,
-        lists::item_field(list, at, 1),
-    )
+    nlri::check_of_type(afi, RouteType::SOURCE_ACTIVE, item.field(1))
 }
 
-// The number of the first of them that is refused, or DONE.
-fn source_active_fault(afi: u16, list: &[u8]) -> u32
+// That of each is; the first of them that is refused decides.
+#[tactic(auto, using(lists::proofs::Along::along), unfolding(routes::specs::SharedTree::source_active_fault))]
+fn check_source_actives(afi: u16, list: &[u8]) -> Result<(), Refusal>
     requires { whole_list 2 list.now ≡ true }
-    ensures { result ≡ source_active_fault afi (list_items 2 list.now) }
+    ensures { result_number result ≡ source_active_fault afi (list_items 2 list.now) }
 {
-    let mut at = FIRST;
-    let mut left = lists::count_of(list);
-    while 0 < left {
-        let number = item_fault(afi, list, at);
-        if number != DONE {
-            return number;
-        }
-        at = lists::after_item(list, at, FIELDS);
-        left -= 1;
+    for item in lists::items_of::<FIELDS>(list) {
+        check_source_active(afi, &item)?;
     }
-    DONE
+    Ok(())
 }
 
-// The number once both lists are whole: FLOW, then that of each Source Active route in turn; or DONE.
-fn whole_fault(afi: u16, size: usize, router: &[u8], source_actives: &[u8], states: &[u8]) -> u32
+// Both lists are whole: FLOW, then each Source Active route in turn.
+fn check_whole(
+    afi: u16,
+    size: usize,
+    router: &[u8],
+    source_actives: &[u8],
+    states: &[u8],
+) -> Result<(), Refusal>
     requires { (whole_list 2 source_actives.now ≡ true) × (whole_list 2 states.now ≡ true) }
-    ensures { result ≡ whole_fault afi (8 * size) router.now source_actives.now states.now }
+    ensures { result_number result ≡ whole_fault afi (8 * size) router.now source_actives.now states.now }
 {
     if !are_addresses_sized(size, router, source_actives, states) {
-        return FLOW;
+        return Err(Refusal::Flow);
     }
-    source_active_fault(afi, source_actives)
+    check_source_actives(afi, source_actives)
 }
 
-// The number of a group's class stands before the lists': FLOW waits for them.
-fn is_early(number: u32) -> bool
-    ensures { result ≡ is_early number }
+// The refusal of a group's class stands before the lists': FLOW waits for them.
+fn is_early(class: Result<GroupClass, Refusal>) -> bool
+    ensures { result ≡ is_early (result_number class) }
 {
-    number != DONE && number != FLOW
+    match class {
+        Ok(_) => false,
+        Err(refusal) => refusal != Refusal::Flow,
+    }
 }
 
 // The class of the group asked, or the first refusal: FAMILY, RANGE, SHORT, LONG, SHORT, FLOW, then each Source Active route in turn. A group
@@ -159,23 +122,15 @@ pub fn tree_class(
     group: &[u8],
     source_actives: &[u8],
     states: &[u8],
-) -> Group
-    ensures { (facts : TreeFacts) → result ≡ group_of (judged_tree afi (tree_of prefixes.now router.now group.now facts source_actives.now states.now)) }
+) -> Result<GroupClass, Refusal>
+    ensures { (facts : TreeFacts) → class_outcome result ≡ judged_tree afi (tree_of prefixes.now router.now group.now facts source_actives.now states.now) }
 {
     let class = groups::class_by_prefixes(afi, prefixes, group);
-    if is_early(class.number) {
+    if is_early(class) {
         return class;
     }
-    let of_lists = lists_fault(source_actives, states);
-    if of_lists != DONE {
-        return Group::refused(of_lists);
-    }
-    if class.number != DONE {
-        return class;
-    }
-    let fault = whole_fault(afi, group.len(), router, source_actives, states);
-    if fault != DONE {
-        return Group::refused(fault);
-    }
-    class
+    check_lists(source_actives, states)?;
+    let class = class?;
+    check_whole(afi, group.len(), router, source_actives, states)?;
+    Ok(class)
 }

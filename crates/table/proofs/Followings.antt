@@ -1,6 +1,6 @@
 -- The route that comes next, found by the place where an NLRI stands or belongs, and what next answers, case by case.
 use Prim.Native.Nat.{ℕ, suc, ◌+◌, ◌*◌, ◌≤◌, ◌<◌}
-use mathlib.Core.Path.{◌≡◌, refl, sym, ◌∙◌, ap, ap₂}
+use mathlib.Core.Path.{◌≡◌, refl, sym, ◌∙◌, ap}
 use mathlib.Core.Bool.{true, false}
 use mathlib.Core.List.{List}
 use native.Mathlib.Omega.{arith}
@@ -20,7 +20,6 @@ use Rattle.routes.specs.Table.{afi_in, count_in, routes_of, sound_of}
 use Rattle.routes.specs.Matching.{found}
 use Rattle.routes.specs.Answers.{found_answer, found_output, matched_by}
 use Rattle.routes.specs.Next.{next_in, next_outcome, empty_next, found_mark, following_by, next_of}
-use Rattle.routes.proofs.Definitions.Places.{mark-octet}
 use Rattle.routes.proofs.Definitions.Nexts.{next_here, next-later}
 use Rattle.routes.proofs.Statements.Images.{length-routes, sound-holdable}
 use Rattle.octets.specs.Outputs.{Leaves}
@@ -29,7 +28,6 @@ use Rattle.places.specs.Writing.{RouteFits, written_route}
 use Rattle.places.specs.declared.output.RouteSizes.{RouteSizes}
 use Rattle.changes.specs.Changing.{rank, first_is}
 use Rattle.table.specs.Following.{first_found}
-use Rattle.places.proofs.Sounds.{sound-mark}
 use Rattle.changes.proofs.Ranks.{rank-more, rank-none}
 use Rattle.places.proofs.Indexes.{routes-from-index}
 use Rattle.places.proofs.Taken.{taken-writable, table_taken}
@@ -82,43 +80,42 @@ module _ (t n : List ℕ) (k : ℕ) (is : sound_of t ≡ true) (e : k ≡ rank n
 
 -- the route at an index, told, or none
 module _ (t : List ℕ) (i count : ℕ) (counted : count ≡ count_in t) where
-  pub first-none : count ≤ i → (output : List ℕ) (answer : Following) → answer ≡ empty_next 0
-      → Leaves (following_by (given (first_found (drop i (routes_of t)))) output) answer output
+  pub first-none : count ≤ i → (output : List ℕ)
+      → Leaves (following_by (given (first_found (drop i (routes_of t)))) output) (empty_next 0) output
   unfolding first_found matched_by on_outcome found_answer found_output found_mark
-  first-none past output answer a = rw (drop_of_length-le (routes_of t) {i = i} (omega (arith, length-routes t))) (a, refl)
+  first-none past output = rw (drop_of_length-le (routes_of t) {i = i} (omega (arith, length-routes t))) (refl, refl)
 
   module _ (here : i < count) (place : List ℕ) (is : place ≡ part t (8 + 128 * i) 128) where
     pub first_fits : sound_of t ≡ true → (output : List ℕ) → 124 ≤ length output → RouteFits place output
     first_fits sound output room = rw is (taken-writable (afi_in t) t (8 + 128 * i) (table_taken t sound i (omega arith)) output room)
 
     pub first-told : sound_of t ≡ true → (output left : List ℕ) (sizes : RouteSizes) → Leaves (written_route (route_in place) output) sizes left
-        → Leaves (following_by (given (first_found (drop i (routes_of t)))) output) (record { number = 0; nlri_size = sizes.nlri; attribute_size = sizes.attribute; stale = get_or place 127 0 }) left
+        → Leaves (following_by (given (first_found (drop i (routes_of t)))) output) (record { number = 0; nlri_size = sizes.nlri; attribute_size = sizes.attribute; stale = mark_octet (eqb (get_or place 127 0) 1) }) left
     unfolding first_found route_at on_outcome matched_by found_answer found_output found_mark stale_of route_in written_route
     first-told sound output left sizes l =
         let first : first_found (drop i (routes_of t)) ≡ found 0 (route_in place) = ap first_found (routes-from-index t i (omega arith)) ∙ ap (λ (x : List ℕ). found 0 (route_in x)) (sym is) in
-        let mark : get_or place 127 0 ≡ mark_octet (eqb (get_or place 127 0) 1) = sym (mark-octet _ (rw is (sound-mark (afi_in t) _ (table_taken t sound i (omega arith)).sound))) in
-        rw first (ap₂ (λ (s : RouteSizes) (k : ℕ). record { number = 0; nlri_size = s.nlri; attribute_size = s.attribute; stale = k }) l.0 mark, l.1)
+        rw first (ap (λ (s : RouteSizes). record { number = 0; nlri_size = s.nlri; attribute_size = s.attribute; stale = mark_octet (eqb (get_or place 127 0) 1) }) l.0, l.1)
 
 -- what next answers
-module _ (t n output : List ℕ) (answer : Following) where
-  by-refusal : (m : ℕ) → next_outcome t n output ≡ refused m → answer ≡ empty_next m → Leaves (next_of t n output) answer output
+module _ (t n output : List ℕ) where
+  by-refusal : (m : ℕ) → next_outcome t n output ≡ refused m → Leaves (next_of t n output) (empty_next m) output
   unfolding next_of matched_by on_outcome
-  by-refusal m e a = rw e (a, refl)
+  by-refusal m e = rw e (refl, refl)
 
   -- TABLE
-  pub next-unsound : sound_of t ≡ false → answer ≡ empty_next TABLE → Leaves (next_of t n output) answer output
+  pub next-unsound : sound_of t ≡ false → Leaves (next_of t n output) (empty_next TABLE) output
   unfolding next_outcome
-  next-unsound h a = by-refusal TABLE (pick-false _ _ _ h) a
+  next-unsound h = by-refusal TABLE (pick-false _ _ _ h)
 
   -- SPACE
-  pub next-space : sound_of t ≡ true → length output < 124 → answer ≡ empty_next SPACE → Leaves (next_of t n output) answer output
+  pub next-space : sound_of t ≡ true → length output < 124 → Leaves (next_of t n output) (empty_next SPACE) output
   unfolding next_outcome
-  next-space s h a = by-refusal SPACE (pick_true _ _ _ s ∙ pick_true _ _ _ (lt-ltb _ _ h)) a
+  next-space s h = by-refusal SPACE (pick_true _ _ _ s ∙ pick_true _ _ _ (lt-ltb _ _ h))
 
   -- the route at the index of the one that comes next
-  pub next-told : sound_of t ≡ true → 124 ≤ length output → (i : ℕ) → first_found (drop i (routes_of t)) ≡ next_in n (routes_of t) → (left : List ℕ)
+  pub next-told : sound_of t ≡ true → 124 ≤ length output → (i : ℕ) → first_found (drop i (routes_of t)) ≡ next_in n (routes_of t) → (answer : Following) (left : List ℕ)
       → Leaves (following_by (given (first_found (drop i (routes_of t)))) output) answer left → Leaves (next_of t n output) answer left
   unfolding next_of next_outcome
-  next-told s h i e left l =
+  next-told s h i e answer left l =
       let given-next : next_outcome t n output ≡ given (first_found (drop i (routes_of t))) = pick_true _ _ _ s ∙ pick-false _ _ _ (le-ltb _ _ h) ∙ ap given (sym e) in
       rw given-next l

@@ -16,7 +16,11 @@ use Rattle.routes.specs.Arguments.{read_route}
 use Rattle.routes.specs.Place.{place_of}
 use Rattle.routes.specs.Table.{afi_in, count_in, places_in, routes_of, image_of, sound_of}
 use Rattle.octets.specs.Outputs.{Changed, Leaves}
-use Rattle.routes.specs.Answers.{NEW, REPLACED, refused_install, done_install, installed_of}
+use Rattle.std.specs.Prelude.{Result, Ok, Err, IsErrAnd}
+use Rattle.octets.specs.declared.refusal.Refusal.{Refusal}
+use Rattle.octets.specs.Refusals.{refusal_number}
+use Rattle.routes.specs.declared.Installation.{Installation}
+use Rattle.routes.specs.Answers.{NEW, REPLACED, refused_install, done_install, installed_of, installed_by}
 use Rattle.routes.specs.Calls.{entering, install_outcome, install_of}
 use Rattle.routes.proofs.Definitions.Bounds.{read-acceptable, sizes-of}
 use Rattle.routes.proofs.Statements.Images.{length-routes, sound-holdable, sound-image}
@@ -29,6 +33,11 @@ use Rattle.changes.proofs.Changes.{image-entered-held, entered-new}
 -- an answer that is the one that a call is known to leave
 pub leaves-as : {A : Type 0} {due : Changed A} {r s : A} {u : List ℕ} → r ≡ s → Leaves due s u → Leaves due r u
 leaves-as e l = (e ∙ l.0, l.1)
+
+-- an install's result by `?`
+pub passed_on-install : (done : Result Installation Refusal) (r : Refusal) → IsErrAnd done (λ x. x ≡ r) → installed_by done ≡ refused_install (refusal_number r)
+passed_on-install (Ok a) r h = absurd h
+passed_on-install (Err x) r h = ap (λ (y : Refusal). refused_install (refusal_number y)) h
 
 refuses : (t n a : List ℕ) (m : ℕ) → install_outcome t n a ≡ refused m → Leaves (install_of t n a) (refused_install m) t
 unfolding install_of installed_of on_outcome

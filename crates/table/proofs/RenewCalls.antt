@@ -4,28 +4,28 @@ use mathlib.Core.Path.{◌≡◌, refl, sym, ◌∙◌, ap, ap₂}
 use mathlib.Core.Bool.{Bool, true, false}
 use mathlib.Core.List.{List, ◌++◌}
 use native.Mathlib.Omega.{arith}
-use borrow.Author.Tests.{eqb-true, eqb-false, eq-eqb, ne_eqb}
-use lib.Dec.{eqb}
+use borrow.Author.Tests.{eq-eqb, ne_eqb}
 use lib.ListN.{length, get_or, take, drop}
 use Rattle.octets.specs.Numbers.{DONE, TABLE, FLOW}
 use Rattle.octets.specs.Outcome.{given, refused, on_outcome, and_then}
 use Rattle.octets.specs.Choice.{pick}
 use Rattle.octets.specs.Octets.{AllOctets, part, placed}
 use Rattle.octets.specs.Order.{same, zeros}
-use Rattle.octets.proofs.Choice.{tested, pick_true, pick-false}
+use Rattle.octets.proofs.Choice.{pick_true, pick-false}
 use Rattle.nlri.specs.Family.{is_originator_size}
 use Rattle.nlri.specs.Standing.{standing}
-use Rattle.routes.specs.declared.Restarted.{Restarted}
 use Rattle.routes.specs.Answers.{refused_restart, restarted_of}
 use Rattle.routes.specs.Calls.{restart_outcome, restart_of}
 use Rattle.routes.specs.Place.{mark_octet}
 use Rattle.routes.specs.Table.{header_of, image_of, afi_in, count_in, places_in, routes_of, sound_of}
-use Rattle.routes.specs.Restart.{RestartCall, marking, sweeping, mark_left, renewed, gone_of, read_router}
+use Rattle.routes.specs.Restart.{RestartCall, marking, mark_left, renewed, gone_of, read_router}
 use Rattle.routes.proofs.Definitions.Restarts.{length-renewed}
 use Rattle.routes.proofs.Statements.Images.{sound, length-routes}
 use Rattle.octets.specs.Outputs.{Leaves}
 use Rattle.places.specs.Readable.{nlri_at, Readable}
-use Rattle.changes.specs.Changing.{remarked}
+use Rattle.changes.specs.declared.change.RouteMark.{RouteMark}
+use Rattle.changes.specs.declared.change.RouteMark.TheVariants.{Fresh, Stale}
+use Rattle.changes.specs.Changing.{mark_number, remarked}
 use Rattle.table.specs.Renewing.{own_at, stale_at, settled_end, settled, Renewing, restart_by}
 use Rattle.places.proofs.Indexes.{places-within}
 use Rattle.table.proofs.Renews.{renewed-image, renewed-gone, renewing-readable, renewing-next, kept, renewing-first}
@@ -38,16 +38,16 @@ module _ (which : RestartCall) (t router : List ℕ) where
   refuses m e = (rw e, rw e)
 
   -- TABLE
-  pub restart-unsound : (r : Restarted) → sound_of t ≡ false → r ≡ refused_restart TABLE → Leaves (restart_of which t router) r t
+  pub restart-unsound : sound_of t ≡ false → Leaves (restart_of which t router) (refused_restart TABLE) t
   unfolding restart_outcome
-  restart-unsound r h e = rw e (refuses TABLE (pick-false _ _ _ h))
+  restart-unsound h = refuses TABLE (pick-false _ _ _ h)
 
   -- FLOW
-  pub restart-missized : (r : Restarted) (flag : Bool) → sound_of t ≡ true → flag ≡ is_originator_size (length router) → flag ≡ false → r ≡ refused_restart FLOW → Leaves (restart_of which t router) r t
+  pub restart-missized : (flag : Bool) → sound_of t ≡ true → flag ≡ is_originator_size (length router) → flag ≡ false → Leaves (restart_of which t router) (refused_restart FLOW) t
   unfolding restart_outcome read_router and_then
-  restart-missized r flag h f n e =
+  restart-missized flag h f n =
       let no : read_router router ≡ refused FLOW = pick-false _ _ _ (sym f ∙ n) in
-      rw e (refuses FLOW (pick_true _ _ _ h ∙ rw no))
+      refuses FLOW (pick_true _ _ _ h ∙ rw no)
 
   -- a call that is done
   pub restart-does : (flag : Bool) (u : List ℕ) (gone : ℕ) → sound_of t ≡ true → flag ≡ is_originator_size (length router) → flag ≡ true
@@ -59,18 +59,10 @@ module _ (which : RestartCall) (t router : List ℕ) where
       (rw (out, e), rw out i)
 
 -- a call by the mark that it leaves
-pub mark-by : (mark : ℕ) → mark ≤ 1 → mark_octet (mark_left (restart_by mark)) ≡ mark
-unfolding restart_by mark_octet mark_left pick
-mark-by mark h =
-    tested (eqb mark 0)
-    (λ z. let e : mark ≡ 0 = eqb-true mark 0 z in ap (λ (s : RestartCall). pick (mark_left s) 1 0) (pick_true _ _ _ z) ∙ swept ∙ sym e)
-    (λ n. let e : mark ≡ 1 = omega (arith, eqb-false mark 0 n) in ap (λ (s : RestartCall). pick (mark_left s) 1 0) (pick-false _ _ _ n) ∙ marked ∙ sym e)
-  where
-    swept : ◌≡◌ {A = ℕ} (pick (mark_left sweeping) 1 0) 0
-    swept = refl
-
-    marked : ◌≡◌ {A = ℕ} (pick (mark_left marking) 1 0) 1
-    marked = refl
+pub mark-by : (mark : RouteMark) → mark_octet (mark_left (restart_by mark)) ≡ mark_number mark
+unfolding mark_octet mark_left pick
+mark-by Fresh = refl
+mark-by Stale = refl
 
 -- the branches of one step
 module _ (mark : ℕ) (router t nlri : List ℕ) (at to : ℕ) (flag : Bool) (n : nlri ≡ nlri_at t at) (f : flag ≡ same (standing nlri).originator router) where
@@ -101,14 +93,14 @@ module _ (mark : ℕ) (router t nlri : List ℕ) (at to : ℕ) (flag : Bool) (n 
       (sym (pick_true _ _ _ own ∙ pick-false _ _ _ fresh), e ∙ sym (pick_true _ _ _ own ∙ pick-false _ _ _ fresh))
 
 -- the loop over the places
-module _ (mark : ℕ) (fits : mark ≤ 1) (router t : List ℕ) (h : sound_of t ≡ true) (count : ℕ) (n : count ≡ count_in t) where
+module _ (mark : RouteMark) (router t : List ℕ) (h : sound_of t ≡ true) (count : ℕ) (n : count ≡ count_in t) where
   -- the state of the loop
   abbrev Turn : (i to : ℕ) (s : List ℕ) → Type 0
-  Turn i to s = (i ≤ count) × Renewing (restart_by mark) router t i to s
+  Turn i to s = Renewing (restart_by mark) router t i to s
 
   -- at first
   pub turn-first : Turn 0 8 t
-  turn-first = (omega arith, renewing-first (restart_by mark) router t h)
+  turn-first = renewing-first (restart_by mark) router t h
 
   -- a place that is not passed lies in the table
   pub turn-room : (i : ℕ) → i < count → (8 + 128 * i + 128 ≤ length t) × (i < 500)
@@ -119,16 +111,16 @@ module _ (mark : ℕ) (fits : mark ≤ 1) (router t : List ℕ) (h : sound_of t 
 
   -- the next place
   pub turn-here : (i to : ℕ) (s : List ℕ) → Turn i to s → i < count → (to ≤ 8 + 128 * i) × Readable s (8 + 128 * i)
-  turn-here i to s p some = (p.1.most, renewing-readable (restart_by mark) router t h i to s p.1 (omega (arith, n)))
+  turn-here i to s p some = (p.most, renewing-readable (restart_by mark) router t h i to s p (omega (arith, n)))
 
   -- one turn
-  pub turn-next : (i to : ℕ) (s : List ℕ) → Turn i to s → i < count → (u : List ℕ) (end : ℕ) → end ≡ settled_end router s (8 + 128 * i) to → u ≡ settled mark router s (8 + 128 * i) to → Turn (i + 1) end u
+  pub turn-next : (i to : ℕ) (s : List ℕ) → Turn i to s → i < count → (u : List ℕ) (end : ℕ) → end ≡ settled_end router s (8 + 128 * i) to → u ≡ settled (mark_number mark) router s (8 + 128 * i) to → Turn (i + 1) end u
   turn-next i to s p some u end e f =
-      (omega arith, renewing-next (restart_by mark) router t h i to s p.1 (omega (arith, n)) u end e (f ∙ ap (λ (m : ℕ). settled m router s (8 + 128 * i) to) (sym (mark-by mark fits))))
+      renewing-next (restart_by mark) router t h i to s p (omega (arith, n)) u end e (f ∙ ap (λ (m : ℕ). settled m router s (8 + 128 * i) to) (sym (mark-by mark)))
 
   -- after the last turn
-  pub turn_last : (i to : ℕ) (s : List ℕ) → Turn i to s → count ≤ i → Renewing (restart_by mark) router t count to s
-  turn_last i to s p k = let e : i ≡ count = omega (arith, p.0) in rw (← e) p.1
+  pub turn_last : (i to : ℕ) (s : List ℕ) → Turn i to s → i ≤ count → count ≤ i → Renewing (restart_by mark) router t count to s
+  turn_last i to s p m k = let e : i ≡ count = omega arith in rw (← e) p
 
   -- how many went, and the table then
   pub turned : AllOctets t → (to : ℕ) (s u : List ℕ) (afi kept : ℕ) → afi ≡ afi_in t → Renewing (restart_by mark) router t count to s → kept ≡ (to - 8) / 128

@@ -7,6 +7,8 @@ use Rattle.nlri.specs.Standing.{standing}
 use Rattle.routes.specs.Place.{PLACE, MARK}
 use Rattle.routes.specs.Table.{places_of, afi_in, routes_of}
 use Rattle.routes.specs.Restart.{RestartCall, marking, sweeping, renewed}
+use Rattle.changes.specs.declared.change.RouteMark.{RouteMark}
+use Rattle.changes.specs.declared.change.RouteMark.TheVariants.{Fresh, Stale}
 use Rattle.changes.specs.Changing.{remarked}
 use Rattle.places.specs.Readable.{nlri_at}
 
@@ -36,5 +38,6 @@ pub record Renewing (which : RestartCall) (router t : List ℕ) (i to : ℕ) (s 
   pub is : take 8 t ++ places_of (renewed (afi_in t) which router (routes_of t)) ≡ take to s ++ places_of (renewed (afi_in t) which router (drop i (routes_of t)))
 
 -- mark or sweep, by the mark that it leaves
-unfoldable pub restart_by : (mark : ℕ) → RestartCall
-restart_by mark = pick (eqb mark 0) sweeping marking
+abbrev pub restart_by : RouteMark → RestartCall
+restart_by Fresh = sweeping
+restart_by Stale = marking

@@ -2,56 +2,61 @@
 ghost use Rattle.std.specs.Prelude.{◌≡◌, true, false, drop};
 ghost use Rattle.octets.specs.Outcome.{number_of};
 ghost use Rattle.routes.specs.Arguments.{read_route};
+ghost use Rattle.routes.specs.Answers.{installed_by};
 ghost use Rattle.routes.specs.Table.{afi_in, routes_of, sound_of};
 ghost use Rattle.routes.specs.Calls.{install_of};
 ghost use Rattle.octets.specs.Outputs.{Leaves};
 ghost use Rattle.changes.specs.Changing.{rank, first_is};
 
 use changes::{change, find};
-use octets::number::{DONE, ROOM, TABLE};
+use octets::refusal::Refusal;
 use places::{header, judge, sound};
-use routes::Installed;
+use routes::{Installation, Installed};
 
-// A route of an NLRI that is not held, entered at the index where it belongs.
-fn enter_new(table: &mut [u8], index: usize, nlri: &[u8], attribute: &[u8]) -> Installed
+// A route of an NLRI that is not held, entered at the index where it belongs: ROOM.
+fn enter_new(
+    table: &mut [u8],
+    index: usize,
+    nlri: &[u8],
+    attribute: &[u8],
+) -> Result<Installation, Refusal>
     requires table_value { sound_of table.old ≡ true }
     requires attribute_value { number_of (read_route (afi_in table.old) nlri.now attribute.now) ≡ 0 }
     requires index_value { index ≡ rank nlri.now (routes_of table.old) }
     requires table_value_2 { first_is nlri.now (drop index (routes_of table.old)) ≡ false }
-    ensures { Leaves (install_of table.old nlri.now attribute.now) result table.new }
+    ensures { Leaves (install_of table.old nlri.now attribute.now) (installed_by result) table.new }
 {
     let count = header::count_of(table);
     if header::places_of(table) <= count {
-        return Installed::refused(ROOM);
+        return Err(Refusal::Room);
     }
     change::add(table, index, count, nlri, attribute);
-    Installed::done(Installed::NEW)
+    Ok(Installation::New)
 }
 
 // A route that is acceptable, entered where its NLRI stands or belongs.
-fn enter(table: &mut [u8], nlri: &[u8], attribute: &[u8]) -> Installed
+fn enter(table: &mut [u8], nlri: &[u8], attribute: &[u8]) -> Result<Installation, Refusal>
     requires table_value { sound_of table.old ≡ true }
     requires attribute_value { number_of (read_route (afi_in table.old) nlri.now attribute.now) ≡ 0 }
-    ensures { Leaves (install_of table.old nlri.now attribute.now) result table.new }
+    ensures { Leaves (install_of table.old nlri.now attribute.now) (installed_by result) table.new }
 {
-    let count = header::count_of(table);
-    let index = find::position(table, count, nlri);
-    if !find::stands_at(table, index, count, nlri) {
-        return enter_new(table, index, nlri, attribute);
+    match find::search(table, nlri) {
+        Ok(index) => {
+            change::replace(table, index, nlri, attribute);
+            Ok(Installation::Replaced)
+        }
+        Err(index) => enter_new(table, index, nlri, attribute),
     }
-    change::replace(table, index, nlri, attribute);
-    Installed::done(Installed::REPLACED)
 }
 
-// Install into a sound table.
-fn install_sound(table: &mut [u8], nlri: &[u8], attribute: &[u8]) -> Installed
-    requires { sound_of table.old ≡ true }
-    ensures { Leaves (install_of table.old nlri.now attribute.now) result table.new }
+// TABLE, the arguments' refusals, then the route entered.
+fn try_install(table: &mut [u8], nlri: &[u8], attribute: &[u8]) -> Result<Installation, Refusal>
+    ensures { Leaves (install_of table.old nlri.now attribute.now) (installed_by result) table.new }
 {
-    let fault = judge::route_fault(header::afi_of(table), nlri, attribute);
-    if fault != DONE {
-        return Installed::refused(fault);
+    if !sound::is_sound(table) {
+        return Err(Refusal::Table);
     }
+    judge::check_route(header::afi_of(table), nlri, attribute)?;
     enter(table, nlri, attribute)
 }
 
@@ -59,8 +64,5 @@ fn install_sound(table: &mut [u8], nlri: &[u8], attribute: &[u8]) -> Installed
 pub fn install(table: &mut [u8], nlri: &[u8], attribute: &[u8]) -> Installed
     ensures { Leaves (install_of table.old nlri.now attribute.now) result table.new }
 {
-    if !sound::is_sound(table) {
-        return Installed::refused(TABLE);
-    }
-    install_sound(table, nlri, attribute)
+    Installed::from(try_install(table, nlri, attribute))
 }

@@ -1,9 +1,9 @@
 -- What the public calls answer, in document 01's numbers and values.
-use Rattle.std.specs.Prelude.{ℕ, ◌+◌, List, length}
-use Rattle.octets.specs.Outcome.{Outcome, given, refused, and_then, on_outcome}
+use Rattle.std.specs.Prelude.{ℕ, ◌+◌, List, Result, length}
+use Rattle.octets.specs.Outcome.{Outcome, given, and_then, on_outcome}
+use Rattle.octets.specs.Refusals.{outcome_in}
 use Rattle.octets.specs.declared.Span.{Span}
-use Rattle.tunnel.specs.declared.Reading.{Reading}
-use Rattle.tunnel.specs.declared.Reading.TheVariants.{Attribute as read, Refused as no}
+use Rattle.octets.specs.declared.refusal.Refusal.{Refusal}
 use Rattle.tunnel.specs.declared.Attribute.{Attribute}
 use Rattle.tunnel.specs.declared.fec.Fec.{Fec}
 use Rattle.fec_elements.specs.Fields.{FecFields}
@@ -11,10 +11,9 @@ use Rattle.fec_elements.specs.Reading.{fec_in}
 use Rattle.tunnel.specs.Identifier.{on_form, form_of}
 use Rattle.tunnel.specs.Attribute.{AttributeFields, label_of, leaf_information_required, read_attribute, write_attribute}
 
--- each case of `Reading`: the attribute, or the number that refuses it
-unfoldable pub outcome_of : Reading → Outcome Attribute
-outcome_of (read a) = given a
-outcome_of (no n) = refused n
+-- the attribute, or the number that refuses it
+abbrev pub outcome_of : Result Attribute Refusal → Outcome Attribute
+outcome_of result = outcome_in result
 
 -- the span of so many octets from a place on
 abbrev pub span : (start size : ℕ) → Span

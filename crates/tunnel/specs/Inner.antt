@@ -1,20 +1,16 @@
 -- These definitions mirror inner functions of src/, and no public contract cites them; laws tie them to document 01's definitions.
-use Rattle.std.specs.Prelude.{ℕ, ◌≡◌, Bool, true, false, List, [], ◌∷◌}
-use Rattle.octets.specs.Outcome.{on_outcome, number_of}
-use Rattle.tunnel.specs.Identifier.{sizes, on_form, form_of, one_of, judged, read_identifier}
+use Rattle.std.specs.Prelude.{ℕ, ◌≡◌, List, [], ◌∷◌}
+use Rattle.octets.specs.Outcome.{number_of}
+use Rattle.fec_elements.specs.FecTypes.{fec_type_octet}
+use Rattle.tunnel.specs.declared.identifier.Form.{Form}
+use Rattle.tunnel.specs.declared.identifier.Form.TheVariants.{Sizes, Fecs}
+use Rattle.tunnel.specs.Identifier.{IdentifierForm, sizes, fec_types, judged, read_identifier}
 
--- a tunnel type that the table lacks
-unfoldable pub unknown : ℕ → Bool
-unknown t = on_outcome (λ _. true) (λ _. false) (form_of t)
+-- a form of the code
+abbrev pub form_told : Form → IdentifierForm
+form_told (Sizes first second) = sizes (first ∷ second ∷ [])
+form_told (Fecs first second) = fec_types (fec_type_octet first ∷ fec_type_octet second ∷ [])
 
--- a tunnel type whose identifier is a FEC
-unfoldable pub mldp : ℕ → Bool
-mldp t = on_outcome (λ _. false) (on_form (λ _. false) (λ _. true)) (form_of t)
-
--- the FEC types that such a tunnel type takes
-unfoldable pub type_suits : (t fec_type : ℕ) → Bool
-type_suits t fec_type = on_outcome (λ _. false) (on_form (λ _. false) (one_of fec_type)) (form_of t)
-
--- a tunnel type whose identifiers have one of two sizes
-abbrev pub TakesSizes : (t first second : ℕ) → Type 0
-TakesSizes t first second = (i : List ℕ) → number_of (read_identifier t i) ≡ number_of (judged (sizes (first ∷ second ∷ [])) i)
+-- the form that judges the identifiers of a tunnel type
+abbrev pub IsRow : (tunnel_type : ℕ) → Form → Type 0
+IsRow t form = (i : List ℕ) → number_of (read_identifier t i) ≡ number_of (judged (form_told form) i)

@@ -1,4 +1,6 @@
 // The identifier of a BIER tunnel (RFC 8556, section 2).
+#![tactic(auto, unfolding(crate::specs::Bier::bier_in))]
+
 ghost use Rattle.std.specs.Prelude.{◌≡◌, ◌≤◌, length};
 ghost use Rattle.tunnel.specs.Bier.{bier_in};
 

@@ -1,12 +1,9 @@
 // An attribute put into an output that has room for it.
 ghost use Rattle.std.specs.Prelude.{◌∷◌, ◌+◌, ◌≤◌, length};
-ghost use Rattle.octets.specs.Outcome.{given};
 ghost use Rattle.octets.specs.Octets.{big_endian};
-ghost use Rattle.octets.specs.Outputs.{Put, Wrote};
+ghost use Rattle.octets.specs.Outputs.{Put};
 ghost use Rattle.tunnel.specs.Attribute.{encode_attribute};
 ghost use Rattle.tunnel.specs.Answers.{argument_fields};
-
-use octets::{Written, number};
 
 // The five octets before the identifier. Answers the place just past them.
 fn put_header(flags: u8, tunnel_type: u8, label_field: u32, output: &mut [u8]) -> usize
@@ -18,21 +15,18 @@ fn put_header(flags: u8, tunnel_type: u8, label_field: u32, output: &mut [u8]) -
     octets::wide::place_three(label_field, output, next)
 }
 
-// The whole attribute, at the front.
+// The whole attribute, at the front. Answers the place just past it.
 pub(crate) fn put(
     flags: u8,
     tunnel_type: u8,
     label_field: u32,
     identifier: &[u8],
     output: &mut [u8],
-) -> Written
+) -> usize
     requires { (length identifier.now ≤ 59) × (5 + length identifier.now ≤ length output.old) }
-    ensures { Wrote (given (encode_attribute (argument_fields flags tunnel_type label_field identifier.now))) output.old result output.new }
+    ensures { Put 0 (encode_attribute (argument_fields flags tunnel_type label_field identifier.now)) output.old result output.new }
 {
     let next = put_header(flags, tunnel_type, label_field, output);
     octets::blocks::place(identifier, output, next);
-    Written {
-        number: number::DONE,
-        size: next + identifier.len(),
-    }
+    next + identifier.len()
 }

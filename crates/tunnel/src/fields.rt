@@ -1,4 +1,6 @@
 // The fields of an attribute, taken from where they stand.
+#![tactic(auto, unfolding(crate::specs::Answers::attribute_struct, crate::specs::Attribute::fields_in, crate::specs::Attribute::label_of, crate::specs::Attribute::leaf_information_required))]
+
 ghost use Rattle.std.specs.Prelude.{◌≡◌, ◌≤◌, length, get_or, drop};
 ghost use Rattle.octets.specs.Numbers.{DONE};
 ghost use Rattle.octets.specs.Outcome.{number_of};
@@ -8,6 +10,7 @@ ghost use Rattle.tunnel.specs.Answers.{attribute_struct, fec_answer};
 
 use crate::Attribute;
 use crate::fec::Fec;
+use crate::tunnel_type::TunnelType;
 use octets::Span;
 
 // The FEC of an mLDP tunnel type; all 0 for any other.
@@ -16,10 +19,12 @@ fn fec_of(s: &[u8]) -> Fec
     requires s_value { number_of (read_identifier (get_or s.now 1 0) (drop 5 s.now)) ≡ DONE }
     ensures { result ≡ fec_answer (fields_in s.now) }
 {
-    if crate::identifier::is_mldp(s[1]) {
-        return crate::fec::spans(octets::parts::after(s, crate::HEADER));
+    match TunnelType::try_from(s[1]) {
+        Ok(tunnel_type) if tunnel_type.is_mldp() => {
+            crate::fec::spans(octets::parts::after(s, crate::HEADER))
+        }
+        _ => Fec::none(),
     }
-    Fec::none()
 }
 
 // All the fields of an attribute whose identifier has no fault.

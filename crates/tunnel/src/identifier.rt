@@ -1,129 +1,75 @@
 // Which identifiers each tunnel type takes (document 01, the table of "PMSI Tunnel attribute").
-ghost use Rattle.std.specs.Prelude.{◌≡◌, true, false, [], ◌∷◌, ◌<◌, length};
-ghost use Rattle.octets.specs.Outcome.{number_of};
-ghost use Rattle.tunnel.specs.Identifier.{sizes, judged, read_identifier};
-ghost use Rattle.tunnel.specs.Inner.{unknown, mldp, type_suits, TakesSizes};
+#![tactic(auto, using(octets::proofs::Tests::flags), unfolding(crate::specs::Identifier::is_identifier, crate::specs::Identifier::one_of))]
 
-use crate::sizes::Sizes;
+ghost use Rattle.std.specs.Prelude.{◌≡◌, ◌<◌, length, [], ◌∷◌};
+ghost use Rattle.octets.specs.Outcome.{number_of};
+ghost use Rattle.octets.specs.Refusals.{result_number};
+ghost use Rattle.fec_elements.specs.FecTypes.{fec_type_octet};
+ghost use Rattle.tunnel.specs.Identifier.{fec_types, is_identifier, read_identifier};
+ghost use Rattle.tunnel.specs.TunnelTypes.{tunnel_type_octet};
+ghost use Rattle.tunnel.specs.Inner.{form_told, IsRow};
+
+use crate::sizes;
 use crate::tunnel_type::TunnelType;
 use fec_elements::shape;
 use fec_elements::shape::FecType;
-use octets::number;
+use octets::refusal::Refusal;
 
-// The two sizes of an identifier, the same where it has one.
+// A form of identifiers: of one of two sizes, or FECs of one of two types; the same twice where there is only one.
 #[derive(Clone, Copy)]
-struct SizePair {
-    first: usize,
-    second: usize,
+enum Form {
+    Sizes(usize, usize),
+    Fecs(FecType, FecType),
 }
 
-// A tunnel type that the table lacks.
-fn is_unknown(tunnel_type: u8) -> bool
-    ensures { result ≡ unknown tunnel_type }
+// A FEC of one of two types; the type is its first octet.
+fn is_fec(identifier: &[u8], first: FecType, second: FecType) -> bool
+    requires { length identifier.now < 256 }
+    ensures { result ≡ is_identifier (fec_types (fec_type_octet first ∷ fec_type_octet second ∷ [])) identifier.now }
 {
-    if tunnel_type == TunnelType::BIER {
+    if !shape::is_short(identifier) {
         return false;
     }
-    TunnelType::MLDP_MP2MP < tunnel_type
+    let fec_type = identifier[0];
+    fec_type == first as u8 || fec_type == second as u8
 }
 
-// A tunnel type whose identifier is a FEC.
-pub(crate) fn is_mldp(tunnel_type: u8) -> bool
-    ensures { result ≡ mldp tunnel_type }
-{
-    if tunnel_type == TunnelType::MLDP_P2MP {
-        return true;
-    }
-    tunnel_type == TunnelType::MLDP_MP2MP
-}
-
-// The sizes in the row of any other tunnel type.
-fn sizes_of(tunnel_type: u8) -> SizePair
-    requires { (unknown tunnel_type ≡ false) × (mldp tunnel_type ≡ false) }
-    ensures { TakesSizes tunnel_type result.first result.second }
-{
-    if tunnel_type == TunnelType::NONE {
-        return SizePair {
-            first: Sizes::NONE,
-            second: Sizes::NONE,
-        };
-    }
-    if tunnel_type == TunnelType::RSVP_TE_P2MP {
-        return SizePair {
-            first: Sizes::RSVP_TE_SESSION,
-            second: Sizes::RSVP_TE_SESSION,
-        };
-    }
-    if tunnel_type == TunnelType::INGRESS_REPLICATION {
-        return SizePair {
-            first: Sizes::IPV4,
-            second: Sizes::IPV6,
-        };
-    }
-    if tunnel_type == TunnelType::BIER {
-        return SizePair {
-            first: Sizes::BIER_IPV4,
-            second: Sizes::BIER_IPV6,
-        };
-    }
-    SizePair {
-        first: Sizes::TWO_IPV4,
-        second: Sizes::TWO_IPV6,
-    }
-}
-
-// An identifier of one of two sizes.
-fn of_sizes(identifier: &[u8], first: usize, second: usize) -> u32
-    ensures { result ≡ number_of (judged (sizes (first ∷ second ∷ [])) identifier.now) }
-{
-    if identifier.len() == first {
-        return number::DONE;
-    }
-    if identifier.len() == second {
-        return number::DONE;
-    }
-    number::IDENT
-}
-
-// The FEC types that an mLDP tunnel type takes.
-fn type_suits(tunnel_type: u8, fec_type: u8) -> bool
-    requires { mldp tunnel_type ≡ true }
-    ensures { result ≡ type_suits tunnel_type fec_type }
-{
-    if tunnel_type == TunnelType::MLDP_P2MP {
-        return fec_type == FecType::P2MP;
-    }
-    if fec_type == FecType::MP2MP_UP {
-        return true;
-    }
-    fec_type == FecType::MP2MP_DOWN
-}
-
-// A FEC, whose type is its first octet.
-fn of_fec(tunnel_type: u8, identifier: &[u8]) -> u32
-    requires { (mldp tunnel_type ≡ true) × (length identifier.now < 256) }
-    ensures { result ≡ number_of (read_identifier tunnel_type identifier.now) }
-{
-    if shape::is_short(identifier) {
-        if type_suits(tunnel_type, identifier[0]) {
-            return number::DONE;
-        }
-        return number::IDENT;
-    }
-    number::IDENT
-}
-
-// The number of an identifier's first fault, TUNNEL or IDENT, or DONE: the one judge for reading and writing.
-pub(crate) fn fault(tunnel_type: u8, identifier: &[u8]) -> u32
+// An identifier of a form.
+fn is_of_form(identifier: &[u8], form: Form) -> bool
     requires { length identifier.now < 256 }
-    ensures { result ≡ number_of (read_identifier tunnel_type identifier.now) }
+    ensures { result ≡ is_identifier (form_told form) identifier.now }
 {
-    if is_mldp(tunnel_type) {
-        return of_fec(tunnel_type, identifier);
+    match form {
+        Form::Sizes(first, second) => identifier.len() == first || identifier.len() == second,
+        Form::Fecs(first, second) => is_fec(identifier, first, second),
     }
-    if is_unknown(tunnel_type) {
-        return number::TUNNEL;
+}
+
+// The row of a tunnel type.
+fn form_of(tunnel_type: TunnelType) -> Form
+    ensures { IsRow (tunnel_type_octet tunnel_type) result }
+{
+    match tunnel_type {
+        TunnelType::NoTunnel => Form::Sizes(0, 0),
+        TunnelType::RsvpTeP2mp => Form::Sizes(sizes::RSVP_TE_SESSION, sizes::RSVP_TE_SESSION),
+        TunnelType::MldpP2mp => Form::Fecs(FecType::P2mp, FecType::P2mp),
+        TunnelType::PimSsm => Form::Sizes(sizes::TWO_IPV4, sizes::TWO_IPV6),
+        TunnelType::PimSm => Form::Sizes(sizes::TWO_IPV4, sizes::TWO_IPV6),
+        TunnelType::BidirPim => Form::Sizes(sizes::TWO_IPV4, sizes::TWO_IPV6),
+        TunnelType::IngressReplication => Form::Sizes(sizes::IPV4, sizes::IPV6),
+        TunnelType::MldpMp2mp => Form::Fecs(FecType::Mp2mpUp, FecType::Mp2mpDown),
+        TunnelType::Bier => Form::Sizes(sizes::BIER_IPV4, sizes::BIER_IPV6),
     }
-    let sizes = sizes_of(tunnel_type);
-    of_sizes(identifier, sizes.first, sizes.second)
+}
+
+// The first fault of an identifier, TUNNEL or IDENT: the one judge for reading and writing.
+pub(crate) fn check(tunnel_type: u8, identifier: &[u8]) -> Result<(), Refusal>
+    requires { length identifier.now < 256 }
+    ensures { result_number result ≡ number_of (read_identifier tunnel_type identifier.now) }
+{
+    let form = form_of(TunnelType::try_from(tunnel_type)?);
+    if is_of_form(identifier, form) {
+        return Ok(());
+    }
+    Err(Refusal::Ident)
 }

@@ -4,10 +4,12 @@
 ghost use Rattle.std.specs.Prelude.{◌≡◌, ℕ};
 ghost use Rattle.octets.specs.Outcome.{number_of};
 ghost use Rattle.octets.specs.Outputs.{Wrote};
+ghost use Rattle.octets.specs.Refusals.{result_number, written_by};
 ghost use Rattle.tunnel.specs.Attribute.{read_attribute, write_attribute};
 ghost use Rattle.tunnel.specs.Answers.{outcome_of, read_struct, argument_fields, write_outcome};
 
-use octets::{Span, Written, number};
+use octets::refusal::Refusal;
+use octets::{Span, Written};
 
 mod bier;
 mod encoding;
@@ -50,57 +52,62 @@ pub struct Attribute {
     pub fec: fec::Fec,
 }
 
-// What reading answers: the attribute, or the number that refuses it.
-#[derive(Clone, Copy)]
-pub enum Reading {
-    Attribute(Attribute),
-    Refused(u32),
-}
-
-// The number of an attribute's first fault, LONG, SHORT, TUNNEL or IDENT, or DONE.
-pub fn fault(s: &[u8]) -> u32
-    ensures { result ≡ number_of (read_attribute s.now) }
+// The first fault of an attribute: LONG, SHORT, TUNNEL or IDENT.
+pub fn check(s: &[u8]) -> Result<(), Refusal>
+    ensures { result_number result ≡ number_of (read_attribute s.now) }
 {
     if MOST < s.len() {
-        return number::LONG;
+        return Err(Refusal::Long);
     }
     if s.len() < HEADER {
-        return number::SHORT;
+        return Err(Refusal::Short);
     }
     // a part handed on, so that the slice reaches this function in registers
-    identifier::fault(s[1], &s[HEADER..])
+    identifier::check(s[1], &s[HEADER..])
 }
 
 // Reads an attribute.
-pub fn read(s: &[u8]) -> Reading
+pub fn read(s: &[u8]) -> Result<Attribute, Refusal>
     ensures { outcome_of result ≡ read_struct s.now }
 {
-    let fault = fault(s);
-    if fault != number::DONE {
-        return Reading::Refused(fault);
-    }
-    Reading::Attribute(fields::fields(s))
+    check(s)?;
+    Ok(fields::fields(s))
 }
 
-// The number of the first fault of what is to be written into `space` octets, LONG, TUNNEL, IDENT, LABEL or SPACE, or DONE;
-// whatever the flags are.
-fn write_fault(tunnel_type: u8, label_field: u32, identifier: &[u8], space: usize) -> u32
-    ensures { (flags : ℕ) → result ≡ number_of (write_attribute (argument_fields flags tunnel_type label_field identifier.now) space) }
+// The first fault of what is to be written into `space` octets, whatever the flags are: LONG, TUNNEL, IDENT, LABEL or SPACE.
+fn check_writing(
+    tunnel_type: u8,
+    label_field: u32,
+    identifier: &[u8],
+    space: usize,
+) -> Result<(), Refusal>
+    ensures { (flags : ℕ) → result_number result ≡ number_of (write_attribute (argument_fields flags tunnel_type label_field identifier.now) space) }
 {
     if MOST_IDENTIFIER < identifier.len() {
-        return number::LONG;
+        return Err(Refusal::Long);
     }
-    let fault = identifier::fault(tunnel_type, identifier);
-    if fault != number::DONE {
-        return fault;
-    }
+    identifier::check(tunnel_type, identifier)?;
     if MOST_LABEL_FIELD < label_field {
-        return number::LABEL;
+        return Err(Refusal::Label);
     }
     if space < HEADER + identifier.len() {
-        return number::SPACE;
+        return Err(Refusal::Space);
     }
-    number::DONE
+    Ok(())
+}
+
+// Puts an attribute at the front of the output, and answers how many octets it has.
+fn put(
+    flags: u8,
+    tunnel_type: u8,
+    label_field: u32,
+    identifier: &[u8],
+    output: &mut [u8],
+) -> Result<usize, Refusal>
+    ensures { Wrote (write_outcome flags tunnel_type label_field identifier.now output.old) output.old (written_by result) output.new }
+{
+    check_writing(tunnel_type, label_field, identifier, output.len())?;
+    Ok(encoding::put(flags, tunnel_type, label_field, identifier, output))
 }
 
 // Writes an attribute at the front of the output.
@@ -113,9 +120,5 @@ pub fn write(
 ) -> Written
     ensures { Wrote (write_outcome flags tunnel_type label_field identifier.now output.old) output.old result output.new }
 {
-    let fault = write_fault(tunnel_type, label_field, identifier, output.len());
-    if fault != number::DONE {
-        return Written::refused(fault);
-    }
-    encoding::put(flags, tunnel_type, label_field, identifier, output)
+    Written::from(put(flags, tunnel_type, label_field, identifier, output))
 }

@@ -5,9 +5,9 @@ use Rattle.octets.proofs.Tests.{tests}
 use Rattle.lists.specs.LentLists.{front_number, list_count}
 use Rattle.lists.proofs.count_of.Goals as goal
 
-pub returns-then-list-lt2 : goal.returns-then-list-lt2
+pub returns-then-list-lt-FIRST : goal.returns-then-list-lt-FIRST
 unfolding list_count
-returns-then-list-lt2 c = record { value = search tests; upper_bound = omega arith }
+returns-then-list-lt-FIRST c = record { value = search tests; upper_bound = omega arith }
 
 pub returns : goal.returns
 unfolding list_count front_number part

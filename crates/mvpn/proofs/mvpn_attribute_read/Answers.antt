@@ -5,12 +5,12 @@ use Rattle.octets.proofs.Outcome.{on-given, on-refused}
 use mathlib.Core.Path.{refl, ◌∙◌, sym, ap}
 use Rattle.mvpn.proofs.mvpn_attribute_read.Goals as goal
 
-pub returns-in-Attribute : goal.returns-in-Attribute
-unfolding outcome_of attribute_answer
-returns-in-Attribute c =
-    c.read-in-Attribute.ensures ∙ on-given _ _ _ _ _ (sym c.read.ensures ∙ ap outcome_of c.in-Attribute.is) refl
+pub returns-in-Ok : goal.returns-in-Ok
+unfolding attribute_answer
+returns-in-Ok c =
+    c.read-in-Ok.ensures ∙ on-given _ _ _ _ _ (sym c.read.ensures ∙ ap outcome_of c.in-Ok.is) refl
 
-pub returns-in-Refused : goal.returns-in-Refused
-unfolding outcome_of attribute_answer
-returns-in-Refused c =
-    c.refused.ensures ∙ on-refused _ _ _ _ _ (sym c.read.ensures ∙ ap outcome_of c.in-Refused.is) refl
+pub returns-in-Err : goal.returns-in-Err
+unfolding attribute_answer
+returns-in-Err c =
+    (rw c.number.ensures at c.refused.ensures) ∙ on-refused _ _ _ _ _ (sym c.read.ensures ∙ ap outcome_of c.in-Err.is) refl

@@ -1,12 +1,13 @@
 -- The lengths that document 01, "NLRI on the wire", allows: what the tests of families, addresses and originators say.
-use Rattle.std.proofs.Common.{◌≡◌, ℕ, ◌*◌, ◌/◌, ◌≤◌, true, ◌⊎◌, ◌↔◌, sym, refl, ap, ◌∙◌, inl, inr, ⊎_elim, arith, eq-eqb, ne_eqb, eqb-true}
+use Rattle.std.proofs.Common.{◌≡◌, ℕ, Result, Ok, Err, ◌*◌, ◌/◌, ◌≤◌, true, ◌⊎◌, ◌↔◌, sym, refl, ap, ◌∙◌, inl, inr, ⊎_elim, arith, eq-eqb, ne_eqb, eqb-true}
 use Rattle.octets.specs.Outcome.{given}
 use Rattle.octets.proofs.Choice.{pick_true, pick-false, both_true, either_left, either_true, both-true-left, both-true-right, picked, either_second}
 use Rattle.octets.proofs.Outcome.{given-unless, given-same, refused-same, never}
-use Rattle.nlri.specs.declared.family.Family.{Family}
-use Rattle.nlri.specs.declared.family.Family.TheVariants.{Known, Unknown}
+use Rattle.octets.specs.declared.refusal.Refusal.{Refusal}
+use Rattle.nlri.specs.declared.address.AddressKind.{AddressKind}
 use Rattle.nlri.specs.Family.{family_bits, family_outcome, root_family, allowed, is_originator_size}
 use Rattle.nlri.specs.Rules.NlriRules.{Lengths}
+use Rattle.nlri.proofs.Definitions.Apart.{refusals-apart}
 
 family-exactly : (afi bits : ℕ) → (family_bits afi ≡ given bits) ↔ (((afi ≡ 1) × (bits ≡ 32)) ⊎ ((afi ≡ 2) × (bits ≡ 128)))
 unfolding family_bits
@@ -38,11 +39,11 @@ root-family afi bits e =
     ⊎_elim (λ one. pick_true _ _ _ (eq-eqb bits 32 one.1) ∙ sym one.0) (λ two. pick-false _ _ _ (ne_eqb bits 32 (λ z. omega (arith, two.1))) ∙ sym two.0)
     ((family-exactly afi bits).0 e)
 
-family-apart : (a b : Family) → family_outcome a ≡ family_outcome b → a ≡ b
-family-apart (Known a) (Known b) e = let same : a.bits ≡ b.bits = given-same e in λ i. Known (record { bits = same i })
-family-apart (Known a) (Unknown n) e = absurd (never {o = given a.bits} refl e)
-family-apart (Unknown m) (Known b) e = absurd (never {o = given b.bits} refl (sym e))
-family-apart (Unknown m) (Unknown n) e = ap Unknown (refused-same {A = ℕ} e)
+family-apart : (a b : Result AddressKind Refusal) → family_outcome a ≡ family_outcome b → a ≡ b
+family-apart (Ok a) (Ok b) e = let same : a.bits ≡ b.bits = given-same e in λ i. Ok (record { bits = same i })
+family-apart (Ok a) (Err n) e = absurd (never {o = given a.bits} refl e)
+family-apart (Err m) (Ok b) e = absurd (never {o = given b.bits} refl (sym e))
+family-apart (Err m) (Err n) e = ap Err (refusals-apart m n (refused-same {A = ℕ} e))
 
 pub lengths : Lengths
 lengths = record { families = family-exactly; addresses = allowed-exactly; originators = originator-exactly; roots = root-family; apart = family-apart }

@@ -10,7 +10,7 @@ use Rattle.fec_elements.specs.declared.Standing.TheVariants.{InBody}
 use Rattle.fec_elements.specs.Reading.{opaque_start, fec_size, read_fec}
 use Rattle.fec_elements.proofs.Nesting.{read-refused, size-read}
 use Rattle.nlri.specs.Family.{root_family, allowed, is_originator_size}
-use Rattle.nlri.specs.Bodies.{FieldKind, distinguisher, source_as, source, group, originator, key, fec, KnownType, to_seven, mldp_s_pmsi, mldp_leaf, mldp_source_tree_join, bodies, on_body, code_of, same_kind, has_field}
+use Rattle.nlri.specs.Bodies.{FieldKind, distinguisher, source_as, source, group, originator, key, fec, KnownType, bodies, on_body, code_of, same_kind, has_field}
 use Rattle.nlri.specs.Reading.{fixed_field, address_end, address_field, originator_field, field_size, sizes_of, key_field}
 use Rattle.nlri.specs.Inner.{left_fault, body_fault, after_flow, after_fec, source_start, is_mldp}
 use Rattle.nlri.proofs.Definitions.Table.{listed, on-body, unlisted, apart}
@@ -193,13 +193,6 @@ left_other bits m n kinds at s none p q =
     ap (λ (o : Outcome (List ℕ)). pick (ltb (length s) at) LENGTH (number_of o)) (sizes-same _ _ kinds (λ k h. field-other bits m n p q k (apart k key kinds h none)) (drop at s))
 
 -- the types of RFC 7441
-pub known-mldp : (type : ℕ) → 7 < type → KnownType type → is_mldp type ≡ true
-unfolding is_mldp either
-known-mldp type h (to_seven low most) = absurd (omega arith)
-known-mldp type h mldp_s_pmsi = refl
-known-mldp type h mldp_leaf = refl
-known-mldp type h mldp_source_tree_join = refl
-
 pub mldp-types : (type : ℕ) → is_mldp type ≡ true → (type ≡ 67) ⊎ (type ≡ 68) ⊎ (type ≡ 71)
 unfolding is_mldp
 mldp-types type h = ⊎_elim (λ e. inl (eqb-true _ _ e)) (λ r. inr (⊎_elim (λ e. inl (eqb-true _ _ e)) (λ e. inr (eqb-true _ _ e)) (either_true _ _ r))) (either_true _ _ h)

@@ -257,10 +257,6 @@ pub answer-by : (l l' : Layout) (s : List ℕ) (nlri : Nlri) (key fec : Span) �
 unfolding answer_at
 answer-by l l' s nlri key held e p q c = (λ i. record { number = DONE; nlri = p i; key = q i; fec = c i }) ∙ ap (λ (x : Layout). answer_at x s) e
 
-pub fec-at : (l : Layout) (type start : ℕ) → l.route_type ≡ type → with_fec type ≡ true → start ≡ fec_start type → record { start = start; size = l.fec } ≡ fec_in_layout l
-unfolding fec_in_layout
-fec-at l type start t h e = λ i. record { start = (e ∙ sym (pick_true _ _ 0 h) ∙ ap (λ (n : ℕ). pick (with_fec n) (fec_start n) 0) (sym t)) i; size = l.fec }
-
 pub answer-laid : (afi : ℕ) (s : List ℕ) (r : NlriReading) → r ≡ answer_at (layout_in s) s → (read_nlri afi s ≡ given (fields_at (layout_in s) s)) × LayoutWithin (layout_in s) s → r ≡ nlri_answer (read_nlri afi s)
 unfolding answer_at
 answer-laid afi s r e read = e ∙ answer-given afi s _ _ _ _ read.0 refl (key-same _ s read.1) (fec-same _ s read.1)

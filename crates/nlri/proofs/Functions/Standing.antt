@@ -1,10 +1,10 @@
 -- An accepted NLRI is laid out as its octets say.
-use Rattle.std.proofs.Common.{◌≡◌, ℕ, ◌+◌, ◌-◌, ◌/◌, ◌<◌, ◌≤◌, true, false, not, eqb, ltb, List, length, get_or, sym, refl, ap, ◌∙◌, ⊎_elim, arith, ltb-false, ltb-true, le-ltb, lt-ltb, eq-eqb, ne_eqb, eqb-true}
+use Rattle.std.proofs.Common.{◌≡◌, ℕ, ◌+◌, ◌-◌, ◌/◌, ◌<◌, ◌≤◌, true, false, not, eqb, ltb, List, length, get_or, sym, refl, ap, ◌∙◌, ⊎_elim, arith, ltb-false, ltb-true, le-ltb, ne_eqb, eqb-true}
 use borrow.Author.Tests.{eqb-false}
 use Rattle.octets.specs.Choice.{pick, either, both}
 use Rattle.octets.specs.Numbers.{DONE}
 use Rattle.octets.specs.Outcome.{given, number_of}
-use Rattle.octets.proofs.Choice.{picks, skips, tested, either-false, pick_true, pick-false}
+use Rattle.octets.proofs.Choice.{picks, skips, tested, either-false}
 use Rattle.octets.proofs.Outcome.{passed, given-same}
 use Rattle.fec_elements.specs.Reading.{fec_size}
 use Rattle.nlri.specs.Bodies.{FieldKind, distinguisher, source_as, source, group, originator, key, fec, bodies, on_body, body_of, code_of, same_kind, has_field}
@@ -128,20 +128,6 @@ module _ (bits : ℕ) (s : List ℕ) (laid : Laid) (e : laid_at bits s ≡ given
       let to-seven : laid.type ≤ 7 = omega (arith, type, ltb-false 7 (get_or s 0 0) low) in
       skips _ _ _ _ low ((flow-stands (unkeyed four to-seven) (flowing (λ q. eqb-false _ _ n₁ (sym type ∙ q)) (λ q. eqb-false _ _ n₂ (sym type ∙ q)) four to-seven)).1
       ∙ ap (λ (k : ℕ). flow_layout k (source_start k - 1) s) type))))))))
-
-pub mldp-layout : (s : List ℕ) → 7 < get_or s 0 0 → layout_in s ≡ mldp_layout (get_or s 0 0) s
-unfolding layout_in
-mldp-layout s high =
-    pick-false _ _ _ (ne_eqb (get_or s 0 0) 1 (λ q. omega arith)) ∙ pick-false _ _ _ (ne_eqb (get_or s 0 0) 2 (λ q. omega arith)) ∙ pick-false _ _ _ (ne_eqb (get_or s 0 0) 4 (λ q. omega arith)) ∙ pick_true _ _ _ (lt-ltb 7 (get_or s 0 0) high)
-
-module _ (type : ℕ) (s : List ℕ) where
-  pub mldp-leaf-layout : type ≡ 68 → mldp_layout type s ≡ leaf_layout 68 s
-  unfolding mldp_layout
-  mldp-leaf-layout e = pick_true _ _ _ (eq-eqb type 68 e) ∙ ap (λ (k : ℕ). leaf_layout k s) e
-
-  pub mldp-fec-layout : (type ≡ 68 → ⊥) → mldp_layout type s ≡ fec_layout type s
-  unfolding mldp_layout
-  mldp-fec-layout other = pick-false _ _ _ (ne_eqb type 68 other)
 
 -- in types 3 and 5 the source stands straight behind the route distinguisher
 pub s-pmsi-layout : (s : List ℕ) → get_or s 0 0 ≡ 3 → layout_in s ≡ flow_layout 3 10 s

@@ -3,16 +3,15 @@ use Rattle.std.proofs.Common.{◌≡◌, ℕ, suc, ◌+◌, ◌-◌, ◌*◌, �
 use Rattle.octets.specs.Choice.{pick}
 use Rattle.octets.specs.Outcome.{given, refused}
 use Rattle.octets.specs.Octets.{AllOctets}
-use Rattle.octets.proofs.Outcome.{and-goes-on, and-stops, passed, never, given-same, refused-same, refused-alike}
+use Rattle.octets.proofs.Outcome.{and-goes-on, and-stops, passed, given-same, refused-alike}
 use Rattle.nlri.specs.declared.layout.Layout.{Layout}
-use Rattle.nlri.specs.declared.layout.Reading.{Reading}
-use Rattle.nlri.specs.declared.layout.Reading.TheVariants as reading
 use Rattle.nlri.specs.Family.{family_bits}
 use Rattle.nlri.specs.Bodies.{FieldKind, source, group, originator, key, fec, body_of, field_in, has_field}
 use Rattle.nlri.specs.Fields.{Fields, encode_address, encode_field, encode_body, encode_nlri, restricted, WellFormed}
 use Rattle.nlri.specs.Reading.{accepted_at, accepted_single, fields_of, read_nlri}
-use Rattle.nlri.specs.Layouts.{reading_of, layout_of, layout_at, layout_single, no_layout}
+use Rattle.nlri.specs.Layouts.{layout_of, layout_at, layout_single, no_layout}
 use Rattle.nlri.specs.Rules.NlriRules.{ReadAs, layout_for, LayoutRule}
+use Rattle.nlri.proofs.Definitions.Apart.{results-apart}
 use Rattle.nlri.proofs.Definitions.Lengths.{family-octets}
 use Rattle.nlri.proofs.Definitions.Table.{field-of-map}
 use Rattle.nlri.proofs.Definitions.Whole.{laid_of, sizes_in}
@@ -83,14 +82,6 @@ layout-single-refuses : (afi : ℕ) (s : List ℕ) (n : ℕ) → read_nlri afi s
 unfolding layout_single read_nlri
 layout-single-refuses afi s n e = refused-alike (family_bits afi) (λ bits. accepted_single bits s) (λ bits laid. fields_of laid s) (λ bits laid. layout_of laid) n e
 
--- answers with the same number and values are equal
-readings-apart : (a b : Reading) → reading_of a ≡ reading_of b → a ≡ b
-unfolding reading_of
-readings-apart (reading.Nlri l) (reading.Nlri m) e = ap reading.Nlri (given-same e)
-readings-apart (reading.Nlri l) (reading.Refused n) e = absurd (never refl e)
-readings-apart (reading.Refused n) (reading.Nlri l) e = absurd (never refl (sym e))
-readings-apart (reading.Refused n) (reading.Refused m) e = ap reading.Refused (refused-same {A = Layout} e)
-
 pub layout_rule : LayoutRule
 unfolding no_layout
 layout_rule =
@@ -98,5 +89,5 @@ layout_rule =
       exactly = λ afi s l a. (layout-single-given afi s l a, λ h. layout-single-encoded afi s h.0 h.1 ∙ ap given (sym h.2));
       refuses = λ afi s n a. (λ e. (read_refusals.exactly afi s n a).0 (layout-single-refused afi s n e), λ h. layout-single-refuses afi s n ((read_refusals.exactly afi s n a).1 h));
       none = refl;
-      apart = readings-apart;
+      apart = results-apart;
     }

@@ -1,22 +1,23 @@
 -- What holds of the definitions as a whole, in document 01's notions. Stated here, proved in proofs/.
-use Rattle.std.specs.Prelude.{◌≡◌, ℕ, ◌+◌, ◌-◌, ◌*◌, ◌/◌, ◌^◌, ◌<◌, ◌≤◌, true, false, ◌≢◌, ◌⊎◌, ◌↔◌, List, [], ◌∷◌, ◌++◌, length, take, slice_index}
+use Rattle.std.specs.Prelude.{◌≡◌, ℕ, Result, ◌+◌, ◌-◌, ◌*◌, ◌/◌, ◌^◌, ◌<◌, ◌≤◌, true, false, ◌≢◌, ◌⊎◌, ◌↔◌, List, [], ◌∷◌, ◌++◌, length, take, slice_index}
 use Rattle.octets.specs.Lists.{Among}
 use Rattle.octets.specs.Numbers.{DONE, SHORT, TYPE, LENGTH, WIDTH, KEY, IDENT, LONG, FAMILY, FLOW, SPACE, DEEP, GROUP}
 use Rattle.octets.specs.Outcome.{given, refused}
 use Rattle.octets.specs.Octets.{AllOctets, part}
+use Rattle.octets.specs.Refusals.{outcome_in}
+use Rattle.octets.specs.declared.refusal.Refusal.{Refusal}
 use Rattle.fec_elements.specs.declared.Standing.TheVariants.{InBody, Lent}
 use Rattle.fec_elements.specs.Rules.FecRules.{NestedFault}
 use Rattle.nlri.specs.Family.{family_bits, family_outcome, root_family, allowed, is_originator_size}
 use Rattle.nlri.specs.Bodies.{FieldKind, distinguisher, source_as, source, group, originator, key, fec, KnownType, body_of, has_field}
 use Rattle.nlri.specs.Fields.{Fields, encode_body, encode_nlri, FecOf, Encodable, Discarded, WellFormed, KeyOf, restricted}
 use Rattle.nlri.specs.Reading.{accepted_at, read_nlri}
-use Rattle.nlri.specs.Layouts.{reading_of, layout_single, no_layout}
+use Rattle.nlri.specs.Layouts.{layout_single, no_layout}
 use Rattle.nlri.specs.Writing.{write_nlri}
 use Rattle.nlri.specs.Groups.{Multicast, SourceSpecific, class_of}
-use Rattle.nlri.specs.declared.family.Family.{Family}
+use Rattle.nlri.specs.declared.address.AddressKind.{AddressKind}
 use Rattle.nlri.specs.declared.fields.Nlri.{Nlri}
 use Rattle.nlri.specs.declared.layout.Layout.{Layout}
-use Rattle.nlri.specs.declared.layout.Reading.{Reading}
 use Rattle.nlri.specs.Answers.{nlri_struct, struct_fields, key_span, fec_span, nlri_answer}
 
 -- "NLRI on the wire": the lengths
@@ -30,7 +31,7 @@ pub record Lengths : Type 0 where
   -- the roots of a family's FECs are of the AFI (RFC 7441, section 3)
   pub roots : (afi bits : ℕ) → family_bits afi ≡ given bits → root_family bits ≡ afi
   -- families of the same number and bits are equal
-  pub apart : (a b : Family) → family_outcome a ≡ family_outcome b → a ≡ b
+  pub apart : (a b : Result AddressKind Refusal) → family_outcome a ≡ family_outcome b → a ≡ b
 
 -- a field where the body may lack it: as it is where the body has it, else empty
 pub data KeptIf {A : Type 0} (Has : Type 0) (field empty : A) : A → Type 0 where
@@ -231,7 +232,7 @@ pub record LayoutRule : Type 0 where
   -- no layout has every number 0
   pub none : no_layout ≡ record { route_type = 0; length = 0; source = 0; group = 0; originator = 0; key = 0; fec = 0 }
   -- answers with the same number and values are equal
-  pub apart : (a b : Reading) → reading_of a ≡ reading_of b → a ≡ b
+  pub apart : (a b : Result Layout Refusal) → outcome_in a ≡ outcome_in b → a ≡ b
 
 -- a source or group of a length that the type and family do not allow, an originator not of 4 or 16 octets
 abbrev pub WidthFault : ℕ → Fields → FieldKind → Type 0

@@ -7,10 +7,9 @@ use Rattle.nlri.specs.Fields.{Fields, encode_nlri, Encodable, Discarded, WellFor
 use Rattle.nlri.specs.Bodies.{KnownType}
 use Rattle.nlri.specs.Layouts.{no_layout}
 use Rattle.nlri.specs.Rules.NlriRules.{layout_for}
-use Rattle.runs.specs.declared.turning.Turn.{Turn}
 use Rattle.runs.specs.Walking.{walk_of, NlriRead, nlris_of}
 use Rattle.runs.specs.Rules.WalkRules.{EncodedAt, EndAt, StepRefusal, RunEnd}
-use Rattle.runs.specs.Modes.{SkippableNumber, turn_from, turned_of, walk_by, nlris_by}
+use Rattle.runs.specs.Modes.{SkippableNumber, TurnTaken, turn_from, turned_of, walk_by, nlris_by}
 
 -- an NLRI of a run: its fields, and the offset where their encoding begins
 pub record EncodedNlri : Type 0 where
@@ -60,7 +59,7 @@ pub record TurnRule : Type 0 where
   pub stops : (afi mode : ℕ) (run : List ℕ) (at n : ℕ) → AllOctets run → StepRefusal afi run at n → (mode ≢ 0) ⊎ (SkippableNumber n → ⊥)
       → turned_of (turn_from afi mode run at) ≡ record { number = n; read = false; skipped = false; layout = no_layout; cursor = 0 }
   -- turns with the same number and values are equal
-  pub apart : (a b : Turn) → turned_of a ≡ turned_of b → a ≡ b
+  pub apart : (a b : TurnTaken) → turned_of a ≡ turned_of b → a ≡ b
 
 -- "Unknown route types are stepped over", and Source Active routes that are discarded (W-210)
 pub record ModeRule : Type 0 where

@@ -1,13 +1,14 @@
 -- What holds of steps and walks, in document 01's notions. Stated here, proved in proofs/.
-use Rattle.std.specs.Prelude.{ℕ, ◌+◌, ◌≤◌, ◌<◌, ◌≡◌, true, false, List, [], ◌∷◌, ◌++◌, ◌↔◌, ◌≢◌, ◌⊎◌, length, drop}
+use Rattle.std.specs.Prelude.{ℕ, ◌+◌, ◌≤◌, ◌<◌, ◌≡◌, true, false, Option, Result, List, [], ◌∷◌, ◌++◌, ◌↔◌, ◌≢◌, ◌⊎◌, length, drop}
 use Rattle.octets.specs.Numbers.{DONE, SHORT, LONG, FAMILY}
 use Rattle.octets.specs.Outcome.{given}
 use Rattle.octets.specs.Octets.{AllOctets}
+use Rattle.octets.specs.declared.refusal.Refusal.{Refusal}
+use Rattle.runs.specs.declared.stepping.Step.{Step}
 use Rattle.nlri.specs.Family.{family_bits}
 use Rattle.nlri.specs.Fields.{Fields, encode_nlri, WellFormed}
 use Rattle.nlri.specs.Bodies.{KnownType}
 use Rattle.nlri.specs.Rules.NlriRules.{FrontRefusal, layout_for}
-use Rattle.runs.specs.declared.stepping.Step.{Step}
 use Rattle.runs.specs.declared.walking.Walked.{Walked}
 use Rattle.runs.specs.Walking.{read_to, ended_at, refused_at, advanced, step_from, step_taken_of, walk_of, NlriRead, nlris_of}
 
@@ -37,6 +38,8 @@ pub record StepRule : Type 0 where
   pub reads : (afi : ℕ) (run : List ℕ) (at : ℕ) (f : Fields) → EncodedAt afi run at f → step_from afi run at ≡ read_to (layout_for f) (at + length (encode_nlri f))
   -- at the run's end DONE with no NLRI, and the cursor given
   pub ends : (afi : ℕ) (run : List ℕ) (at : ℕ) → (step_from afi run at ≡ ended_at at) ↔ EndAt afi run at
+  -- which is told there, and nowhere else
+  pub ended : (afi : ℕ) (run : List ℕ) (at : ℕ) → ((step_from afi run at).ended ≡ true) ↔ EndAt afi run at
   -- each number, with the cursor given, exactly when document 01, W-207 and W-210 say
   pub refuses : (afi : ℕ) (run : List ℕ) (at n : ℕ) → AllOctets run → (step_from afi run at ≡ refused_at n at) ↔ StepRefusal afi run at n
   -- there is no other step
@@ -48,8 +51,8 @@ pub record StepRule : Type 0 where
   -- a step that reads moves the cursor just past the NLRI, within the run
   pub moves : (afi : ℕ) (run : List ℕ) (at : ℕ) → (step_from afi run at).read ≡ true
       → ((step_from afi run at).cursor ≡ advanced at (step_from afi run at).layout.length) × (at < (step_from afi run at).cursor) × ((step_from afi run at).cursor ≤ length run)
-  -- answers with the same number and values are equal
-  pub apart : (a b : Step) → step_taken_of a ≡ step_taken_of b → a ≡ b
+  -- results with the same number and values are equal
+  pub apart : (a b : Result (Option Step) Refusal) (at : ℕ) → step_taken_of a at ≡ step_taken_of b at → a ≡ b
 
 -- the walk from a cursor as the iteration of the step: it goes on from the cursor that a step that read hands back, and stops at any other step
 pub data Walks (afi : ℕ) (run : List ℕ) : (at count : ℕ) → Walked → Type 0 where

@@ -9,11 +9,12 @@ use lib.ListN.{length, get_or, drop, length-drop}
 use lib.Seq.{take-length, drop-drop}
 use Rattle.octets.specs.Outcome.{given, refused, and_then}
 use Rattle.octets.specs.Octets.{AllOctets, part}
-use Rattle.octets.proofs.Outcome.{never, given-same, passed, stopped}
+use Rattle.octets.proofs.Outcome.{never, given-same, refused-same, passed, stopped}
 use Rattle.octets.proofs.Lists.{length_part}
 use Rattle.octets.proofs.AllOctets.{octets-drop}
-use Rattle.tunnel.specs.declared.Reading.{Reading}
-use Rattle.tunnel.specs.declared.Reading.TheVariants.{Attribute as read, Refused as no}
+use Rattle.octets.specs.declared.refusal.Refusal.{Refusal}
+use Rattle.octets.proofs.Refusals.{refusal_number-apart}
+use Rattle.std.proofs.Common.{Result, Ok, Err}
 use Rattle.tunnel.specs.declared.Attribute.{Attribute}
 use Rattle.fec_elements.specs.Fields.{encode_fec, WellFormedFec}
 use Rattle.fec_elements.specs.Reading.{opaque_start, opaque_size, fec_in, whole_fec}
@@ -29,13 +30,12 @@ use Rattle.tunnel.proofs.Definitions.Attributes.{Accepted, read-given, length-at
 use Rattle.tunnel.proofs.Statements.ReadRule.{accepted-fields, read-encode, attribute_read_rule}
 use Rattle.tunnel.proofs.Statements.WriteRule.{attribute_write_rule, write-encode}
 
--- the cases of the enum are told apart
-outcome-apart : (a b : Reading) → outcome_of a ≡ outcome_of b → a ≡ b
-unfolding outcome_of
-outcome-apart (read a) (read b) e = let q : a ≡ b = given-same e in rw q
-outcome-apart (read a) (no n) e = absurd (never refl e)
-outcome-apart (no m) (read b) e = absurd (never e refl)
-outcome-apart (no m) (no n) e = let q : m ≡ n = cc in rw q
+-- the numbers tell refusals apart
+outcome-apart : (a b : Result Attribute Refusal) → outcome_of a ≡ outcome_of b → a ≡ b
+outcome-apart (Ok a) (Ok b) e = let q : a ≡ b = given-same e in rw q
+outcome-apart (Ok a) (Err n) e = absurd (never refl e)
+outcome-apart (Err m) (Ok b) e = absurd (never e refl)
+outcome-apart (Err m) (Err n) e = let q : m ≡ n = refusal_number-apart m n (refused-same {A = Attribute} e) in rw q
 
 -- root, opaque length and opaque value stand one straight after the other, up to the end
 spans-root : (i : List ℕ) → (fec_spans (fec_in i)).root.start + (fec_spans (fec_in i)).root.size + 2 ≡ (fec_spans (fec_in i)).opaque.start

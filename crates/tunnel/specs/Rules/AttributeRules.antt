@@ -1,5 +1,5 @@
 -- What holds of the definitions as a whole, in document 01's notions. Stated here, proved in the files that `proofs/Theorems.antt` names.
-use Rattle.std.specs.Prelude.{ℕ, ◌+◌, ◌/◌, ◌%◌, ◌<◌, ◌≤◌, ◌≡◌, ◌↔◌, ◌≢◌, List, length, get_or, drop}
+use Rattle.std.specs.Prelude.{ℕ, ◌+◌, ◌/◌, ◌%◌, ◌<◌, ◌≤◌, ◌≡◌, ◌↔◌, ◌≢◌, List, Result, length, get_or, drop}
 use Rattle.octets.specs.Lists.{Among}
 use Rattle.octets.specs.Numbers.{SHORT, TUNNEL, IDENT, LONG, LABEL, SPACE}
 use Rattle.octets.specs.Outcome.{given, refused}
@@ -8,7 +8,7 @@ use Rattle.octets.specs.Outputs.{Wrote}
 use Rattle.octets.specs.Rules.Answering.{Answering, WrittenAtFront, NothingWritten}
 use Rattle.octets.specs.declared.Span.{Span}
 use Rattle.octets.specs.declared.Written.{Written}
-use Rattle.tunnel.specs.declared.Reading.{Reading}
+use Rattle.octets.specs.declared.refusal.Refusal.{Refusal}
 use Rattle.tunnel.specs.declared.Attribute.{Attribute}
 use Rattle.tunnel.specs.declared.fec.Fec.{Fec}
 use Rattle.fec_elements.specs.Fields.{FecFields, encode_fec, WellFormedFec}
@@ -118,4 +118,4 @@ pub record AttributeAnswerRule : Type 0 where
   pub accepted : (s : List ℕ) (a : Attribute) → AllOctets s → (read_struct s ≡ given a) ↔ AnsweredAttribute s a
   pub exactly : (s : List ℕ) (n : ℕ) → AllOctets s → (read_struct s ≡ refused n) ↔ AttributeReadRefusal s n
   -- answers of the same number and values are equal
-  pub apart : (a b : Reading) → outcome_of a ≡ outcome_of b → a ≡ b
+  pub apart : (a b : Result Attribute Refusal) → outcome_of a ≡ outcome_of b → a ≡ b

@@ -1,13 +1,8 @@
 -- `bier::leaf::gather` meets its contract.
-use lib.ListN.{drop}
-use Rattle.lists.proofs.Going.{Going}
+use Rattle.std.proofs.Common.{◌≡◌}
+use Rattle.octets.specs.Order.{zeros}
 use Rattle.bier.specs.Inner.{gathered_from}
-use Rattle.lists.specs.LentLists.{list_items}
 use Rattle.bier.proofs.leaf.gather.Given as goal
 
-abbrev pub invariant-loop-left : goal.invariant-loop-left
-invariant-loop-left l =
-    Going 2 (list_items 2 l.leaves) (gathered_from l.afi l.nlri l.sub_domain l.set l.initial.string) (gathered_from l.afi l.nlri l.sub_domain l.set l.string) l.left (drop l.at l.leaves)
-
-abbrev pub decreases-loop-left : goal.decreases-loop-left
-decreases-loop-left l = l.left
+abbrev pub invariant-loop-leaf : goal.invariant-loop-leaf
+invariant-loop-leaf l = gathered_from l.afi l.nlri l.sub_domain l.set (zeros 32) l.fn.leaves ≡ gathered_from l.afi l.nlri l.sub_domain l.set l.string l.leaf-iterator

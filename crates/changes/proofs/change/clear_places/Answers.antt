@@ -1,7 +1,9 @@
 -- `changes::change::clear_places` meets its contract.
+use Rattle.octets.specs.Order.{zeros}
 use Rattle.changes.proofs.Moves.{rest-cleared}
 use Rattle.changes.proofs.change.clear_places.Goals as goal
 
 pub returns : goal.returns
+unfolding zeros
 returns c =
-    rest-cleared 8 c.args.table.now c.clear.new.octets c.requires c.clear.ensures
+    rest-cleared 8 c.args.table.now c.fill.new.self c.requires (c.fill.ensures.after (λ y e. e))

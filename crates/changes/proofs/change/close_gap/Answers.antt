@@ -1,8 +1,12 @@
 -- `changes::change::close_gap` meets its contract.
-use Rattle.changes.proofs.Moves.{gap-closed}
+use mathlib.Core.Path.{◌∙◌}
+use Rattle.octets.specs.Order.{zeros}
+use Rattle.changes.proofs.Moves.{down_by_copy, gap-closed}
 use Rattle.changes.proofs.change.close_gap.Goals as goal
 
 pub returns : goal.returns
+unfolding zeros
 returns c =
-    let m = c.move_down in
-    gap-closed 128 c.args.tail.now m.new.tail c.clear.new.octets c.requires m.auto.tail m.ensures c.clear.ensures
+    let d = c.args.tail.now in
+    let m = c.copy_within in
+    gap-closed 128 d m.new.self c.fill.new.self c.requires m.ensures.len (m.ensures.after ∙ down_by_copy 128 d) (c.fill.ensures.after (λ y e. e))

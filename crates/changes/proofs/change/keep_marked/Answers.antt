@@ -12,6 +12,6 @@ use Rattle.changes.proofs.change.keep_marked.Goals as goal
 pub returns : goal.returns
 returns c =
     let a = c.args in
-    c.set_mark.ensures ∙ ap (λ (x : List ℕ). set x (a.to + 127) a.mark) c.keep.ensures
+    ap (λ (x : List ℕ). set x (a.to + 127) a.mark) c.keep.ensures
     ∙ mark_set a.to a.mark (part a.table.now a.at 128) a.table.now
     (length_part a.table.now a.at 128 c.requires.1) (search rules)

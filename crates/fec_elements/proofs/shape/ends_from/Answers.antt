@@ -13,4 +13,4 @@ returns-then-s-start c = search flags
 pub returns : goal.returns
 returns c =
     let a = c.args in
-    ends_low (octets-of a.s.now (λ k. (c.shared_slice_known-1.given k).fits)) a.start _ (search rules) (search rules) (search rules) c.two_low_first.ensures.0
+    ends_low (octets-of a.s.now (λ k. (c.type_inv.s k).fits)) a.start _ (search rules) (search rules) (search rules) c.two_low_first.ensures.0

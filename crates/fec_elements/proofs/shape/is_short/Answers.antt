@@ -1,30 +1,21 @@
 -- `fec_elements::shape::is_short` meets its contract.
-use borrow.Author.Rules.{rules}
+use Rattle.std.proofs.Common.{arith}
 use Rattle.octets.proofs.Tests.{flags}
-use Rattle.octets.proofs.AllOctets.{octets-of}
-use Rattle.fec_elements.specs.Fields.{ipv4, ipv6}
 use Rattle.fec_elements.specs.Reading.{short_fec}
 use Rattle.fec_elements.proofs.Shorts.{short-least, short-rooted, short-unrooted}
 use Rattle.fec_elements.proofs.shape.is_short.Goals as goal
+use Rattle.fec_elements.proofs.shape.is_short.Goals.{then-s-lt-LEAST-via-then-s-lt-LEAST, then-s-lt-LEAST-via-else-s-lt-LEAST+then-s-gt-MOST_SHORT}
 
-pub returns-then-s-lt-IPV4 : goal.returns-then-s-lt-IPV4
-returns-then-s-lt-IPV4 c = short-least c.args.s.now (search rules)
-
-pub returns-then-s-gt-MOST_SHORT : goal.returns-then-s-gt-MOST_SHORT
+pub returns-then-s-lt-LEAST : goal.returns-then-s-lt-LEAST
 unfolding short_fec
-returns-then-s-gt-MOST_SHORT c = search flags
+returns-then-s-lt-LEAST c =
+    elim c.then-s-lt-LEAST.branch [
+      | then-s-lt-LEAST-via-then-s-lt-LEAST w ↦ short-least c.args.s.now w.if-s-lt-LEAST.true
+      | then-s-lt-LEAST-via-else-s-lt-LEAST+then-s-gt-MOST_SHORT w ↦ let h = w.if-s-gt-MOST_SHORT.true in search flags
+    ]
 
-pub returns-then-root-eq-IPV4 : goal.returns-then-root-eq-IPV4
-returns-then-root-eq-IPV4 c =
-    let s = c.args.s.now in
-    short-rooted (octets-of s (λ k. (c.shared_slice_known-1.given k).fits)) (search rules) _ c.four_low_first-root.ensures (search rules) 1 4 ipv4 (search rules) (search rules) (search rules) _ c.ends_from.ensures
+pub returns-in-Some : goal.returns-in-Some
+returns-in-Some c = short-rooted c.args.s.now _ c.in-Some.ensures (omega arith) (omega arith) _ (rw c.opaque_start.ensures at c.ends_from.ensures)
 
-pub returns-then-root-eq-IPV6 : goal.returns-then-root-eq-IPV6
-returns-then-root-eq-IPV6 c =
-    let s = c.args.s.now in
-    short-rooted (octets-of s (λ k. (c.shared_slice_known-1.given k).fits)) (search rules) _ c.four_low_first-root.ensures (search rules) 2 16 ipv6 (search rules) (search rules) (search rules) _ c.ends_from-then-root-eq-IPV6.ensures
-
-pub returns : goal.returns
-returns c =
-    let s = c.args.s.now in
-    short-unrooted (octets-of s (λ k. (c.shared_slice_known-1.given k).fits)) (search rules) _ c.four_low_first-root.ensures c.if-root-eq-IPV4.false c.if-root-eq-IPV6.false
+pub returns-in-None : goal.returns-in-None
+returns-in-None c = short-unrooted c.args.s.now c.in-None.ensures

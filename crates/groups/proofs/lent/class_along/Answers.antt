@@ -1,36 +1,16 @@
 -- `groups::lent::class_along` meets its contract.
-use Rattle.groups.proofs.Classes.{along}
+use borrow.Author.Rules.{rules}
+use Rattle.groups.proofs.Classes.{along-held, along-other, along-stop, along-last}
 use Rattle.groups.proofs.lent.class_along.Goals as goal
 
-pub count_of-left-requires : goal.count_of-left-requires
-count_of-left-requires c = search along
-
-pub loop-left-init : goal.loop-left-init
-loop-left-init c = search along
-
-pub is_good-requires : goal.is_good-requires
-is_good-requires c = search along
-
-pub refused-requires : goal.refused-requires
-refused-requires c = search along
-
 pub returns-then-not-is_good : goal.returns-then-not-is_good
-returns-then-not-is_good c = search along
+returns-then-not-is_good c = along-stop _ _ _ c.loop-item.invariant c.in-Some.ensures.steps _ c.field-prefix.ensures _ c.is_good.ensures c.if-not-is_good.true
 
-pub class_with-group_class-requires : goal.class_with-group_class-requires
-class_with-group_class-requires c = search along
+pub loop-item-preserved-then-is_held : goal.loop-item-preserved-then-is_held
+loop-item-preserved-then-is_held c = search (rules, along-held)
 
-pub after_item-at-requires : goal.after_item-at-requires
-after_item-at-requires c = search along
-
-pub overflow_sub-left : goal.overflow_sub-left
-overflow_sub-left c = search along
-
-pub loop-left-smaller : goal.loop-left-smaller
-loop-left-smaller c = search along
-
-pub loop-left-preserved : goal.loop-left-preserved
-loop-left-preserved c = search along
+pub loop-item-preserved : goal.loop-item-preserved
+loop-item-preserved c = search (rules, along-other)
 
 pub returns : goal.returns
-returns c = search along
+returns c = search (rules, along-last)

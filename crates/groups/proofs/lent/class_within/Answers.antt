@@ -1,20 +1,20 @@
 -- `groups::lent::class_within` meets its contract.
+use Rattle.std.proofs.Common.{arith, ap, sym, ◌∙◌}
 use Rattle.groups.proofs.Classes.{within-many, within-short, within-along}
-use Rattle.std.proofs.Common.{sym, ◌∙◌}
+use Rattle.groups.specs.Inner.{class_along}
 use Rattle.groups.proofs.lent.class_within.Goals as goal
 
 pub returns-then-count_of-gt-MOST_PREFIXES : goal.returns-then-count_of-gt-MOST_PREFIXES
-returns-then-count_of-gt-MOST_PREFIXES c = within-many _ _ _ _ c.count_of.ensures.value c.if-count_of-gt-MOST_PREFIXES.true _ c.refused.ensures
+returns-then-count_of-gt-MOST_PREFIXES c = within-many _ _ _ _ c.count_of.ensures.value c.if-count_of-gt-MOST_PREFIXES.true
 
 pub returns-then-not-is_whole : goal.returns-then-not-is_whole
-returns-then-not-is_whole c =
-    within-short _ _ _ _ c.count_of.ensures.value c.if-count_of-gt-MOST_PREFIXES.false
-    (sym c.is_whole.ensures ∙ c.if-not-is_whole.true) _ c.refused-then-not-is_whole.ensures
+returns-then-not-is_whole c = within-short _ _ _ _ c.count_of.ensures.value c.if-count_of-gt-MOST_PREFIXES.false (sym c.is_whole.ensures ∙ c.if-not-is_whole.true)
 
-pub class_along-requires : goal.class_along-requires
-class_along-requires c = sym c.is_whole.ensures ∙ c.if-not-is_whole.false
+pub items_of-requires : goal.items_of-requires
+items_of-requires c = (omega arith, sym c.is_whole.ensures ∙ c.if-not-is_whole.false)
 
 pub returns : goal.returns
 returns c =
-    within-along _ _ _ _ c.count_of.ensures.value c.if-count_of-gt-MOST_PREFIXES.false
-    (sym c.is_whole.ensures ∙ c.if-not-is_whole.false) _ c.class_along.ensures
+    c.class_along.ensures
+    ∙ ap (class_along _ _ _) c.items_of.ensures.value
+    ∙ within-along _ _ _ _ c.count_of.ensures.value c.if-count_of-gt-MOST_PREFIXES.false (sym c.is_whole.ensures ∙ c.if-not-is_whole.false)

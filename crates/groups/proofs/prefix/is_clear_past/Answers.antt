@@ -12,9 +12,9 @@ returns-then-whole-address c = bits_none _ c.args.address.now c.if-whole-address
 pub returns-then-not-is_part_clear : goal.returns-then-not-is_part_clear
 returns-then-not-is_part_clear c =
     let a = c.args in
-    clear-off _ a.address.now (octets-of a.address.now (λ k. (c.shared_slice_known-1.given k).fits)) c.requires c.if-whole-address.false _ c.is_part_clear.ensures (ap not c.if-not-is_part_clear.true)
+    clear-off _ a.address.now (octets-of a.address.now (λ k. (c.type_inv.address k).fits)) c.requires c.if-whole-address.false _ c.is_part_clear.ensures (ap not c.if-not-is_part_clear.true)
 
 pub returns : goal.returns
 returns c =
     let a = c.args in
-    clear-last _ a.address.now (octets-of a.address.now (λ k. (c.shared_slice_known-1.given k).fits)) c.requires c.if-whole-address.false _ c.is_part_clear.ensures (ap not c.if-not-is_part_clear.false) _ c.after.ensures _ c.is_zero.ensures
+    clear-last _ a.address.now (octets-of a.address.now (λ k. (c.type_inv.address k).fits)) c.requires c.if-whole-address.false _ c.is_part_clear.ensures (ap not c.if-not-is_part_clear.false) _ c.after.ensures _ c.is_zero.ensures

@@ -11,10 +11,10 @@ pub returns-then-address-size : goal.returns-then-address-size
 returns-then-address-size c = prefix-other _ _ _ c.after-address.ensures c.if-prefix-eq0.false c.if-address-size.true
 
 pub overflow_cast-bits : goal.overflow_cast-bits
-overflow_cast-bits c = omega (arith, c.shared_slice_known-2-1.given 0)
+overflow_cast-bits c = omega (arith, c.type_inv.prefix 0)
 
 pub overflow_add-bits : goal.overflow_add-bits
-overflow_add-bits c = omega (arith, c.shared_slice_known-2-1.given 0)
+overflow_add-bits c = omega (arith, c.type_inv.prefix 0)
 
 pub returns-then-size-bits : goal.returns-then-size-bits
 returns-then-size-bits c = prefix-over _ _ _ c.after-address.ensures c.if-prefix-eq0.false c.if-address-size.false _ refl c.if-size-bits.true

@@ -13,7 +13,7 @@ pub bounds-prefix-0 : goal.bounds-prefix-0
 bounds-prefix-0 c = let a = c.args in omega (arith, good-size a.prefix.now _ c.requires)
 
 pub overflow_cast-prefix : goal.overflow_cast-prefix
-overflow_cast-prefix c = omega (arith, c.shared_slice_known-3-1.given 0)
+overflow_cast-prefix c = omega (arith, c.type_inv.prefix 0)
 
 pub is_begun_alike-requires : goal.is_begun_alike-requires
 is_begun_alike-requires c =

@@ -2,10 +2,7 @@
 use Rattle.octets.proofs.Tests.{flags}
 use Rattle.mvpn_list.specs.Listing.{mode_of}
 use Rattle.mvpn_list.proofs.arguments.mode_of.Goals as goal
-
-pub returns-then-count-ne2 : goal.returns-then-count-ne2
-unfolding mode_of
-returns-then-count-ne2 c = search flags
+use Rattle.mvpn_list.proofs.arguments.mode_of.Goals.{else-count-eq2-via-then-count-eq2+else-is_same, else-count-eq2-via-else-count-eq2}
 
 pub returns-then-is_same : goal.returns-then-is_same
 unfolding mode_of
@@ -13,4 +10,4 @@ returns-then-is_same c = search flags
 
 pub returns : goal.returns
 unfolding mode_of
-returns c = search flags
+returns c = elim c.else-count-eq2.branch [ else-count-eq2-via-then-count-eq2+else-is_same w ↦ search flags | else-count-eq2-via-else-count-eq2 w ↦ search flags ]

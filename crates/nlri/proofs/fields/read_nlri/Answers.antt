@@ -1,16 +1,23 @@
 -- `nlri::fields::read_nlri` meets its contract.
+use Rattle.std.proofs.Common.{refl, ap, ◌∙◌}
+use Rattle.octets.proofs.Refusals.{refusal_number-not_done}
+use Rattle.nlri.specs.declared.layout.Layout.{Layout}
+use Rattle.nlri.specs.Inner.{answer_at}
 use Rattle.nlri.proofs.Functions.Via.{known-given, unknown-given}
 use Rattle.nlri.proofs.Functions.Singles.{single-in, read-no-family, read-faulty, read-laid, answer-laid, answer-refused}
 use Rattle.nlri.proofs.fields.read_nlri.Goals as goal
 
 pub returns-in_default : goal.returns-in_default
-returns-in_default c = answer-refused _ _ _ _ c.refusal.ensures (read-no-family _ _ _ (unknown-given _ _ _ c.family_of.ensures c.in_default.is))
+returns-in_default c = answer-refused _ _ _ _ c.refused.ensures (read-no-family _ _ _ (unknown-given _ _ _ c.family_of.ensures c.in_default.is))
 
-pub returns-then-fault-ne-DONE : goal.returns-then-fault-ne-DONE
-returns-then-fault-ne-DONE c = answer-refused _ _ _ _ c.refusal-then-fault-ne-DONE.ensures (read-faulty _ _ _ (known-given _ _ _ c.family_of.ensures c.in-Known.is) _ c.single_fault-fault.ensures c.if-fault-ne-DONE.true)
+pub layout_in-requires : goal.layout_in-requires
+layout_in-requires c = (single-in _ _ _ c.in-Ok-check_single.ensures refl).0
 
-pub accepted_reading-requires : goal.accepted_reading-requires
-accepted_reading-requires c = ((single-in _ _ _ c.single_fault-fault.ensures c.if-fault-ne-DONE.false).0, (read-laid _ _ _ (known-given _ _ _ c.family_of.ensures c.in-Known.is) _ c.single_fault-fault.ensures c.if-fault-ne-DONE.false).1)
+pub reading_by-requires : goal.reading_by-requires
+reading_by-requires c = rw c.layout_in.ensures (read-laid _ _ _ (known-given _ _ _ c.family_of.ensures c.in-Ok.is) _ c.in-Ok-check_single.ensures refl).1
 
-pub returns : goal.returns
-returns c = answer-laid _ _ _ c.accepted_reading.ensures (read-laid _ _ _ (known-given _ _ _ c.family_of.ensures c.in-Known.is) _ c.single_fault-fault.ensures c.if-fault-ne-DONE.false)
+pub returns-in-Ok-check_single : goal.returns-in-Ok-check_single
+returns-in-Ok-check_single c = answer-laid _ _ _ (c.reading_by.ensures ∙ ap (λ (l : Layout). answer_at l c.args.s.now) c.layout_in.ensures) (read-laid _ _ _ (known-given _ _ _ c.family_of.ensures c.in-Ok.is) _ c.in-Ok-check_single.ensures refl)
+
+pub returns-in-Err : goal.returns-in-Err
+returns-in-Err c = answer-refused _ _ _ _ c.refused-in-Err.ensures (read-faulty _ _ _ (known-given _ _ _ c.family_of.ensures c.in-Ok.is) _ c.in-Err.ensures (refusal_number-not_done _))

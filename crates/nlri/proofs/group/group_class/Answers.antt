@@ -1,19 +1,18 @@
 -- `nlri::group::group_class` meets its contract.
-use Rattle.std.proofs.Common.{refl}
-use Rattle.octets.proofs.Outcome.{and-goes-on}
+use Rattle.std.proofs.Common.{◌∙◌, sym, refl}
+use Rattle.octets.proofs.Outcome.{and-goes-on, and-stops}
 use Rattle.nlri.proofs.Definitions.Families.{family-least}
-use Rattle.nlri.proofs.Functions.Via.{reads, group-is, known-given}
+use Rattle.nlri.proofs.Functions.Via.{class_passed_on}
 use Rattle.nlri.specs.Groups.{class_of}
 use Rattle.nlri.proofs.group.group_class.Goals as goal
 
+pub returns-in_err-kind : goal.returns-in_err-kind
+unfolding class_of
+returns-in_err-kind c = class_passed_on _ _ c.from_residual.ensures.1 ∙ and-stops _ _ _ (sym c.in_err-kind.ensures)
+
 pub class_in-requires : goal.class_in-requires
-unfolding class_of
-class_in-requires c = family-least _ _ (known-given _ _ _ c.family_of.ensures c.in-Known.is)
+class_in-requires c = family-least _ _ (sym c.in_ok-kind.ensures)
 
-pub returns-in-Unknown : goal.returns-in-Unknown
+pub returns : goal.returns
 unfolding class_of
-returns-in-Unknown c = search (reads, group-is)
-
-pub returns-in-Known : goal.returns-in-Known
-unfolding class_of
-returns-in-Known c = group-is _ _ _ c.class_in.ensures (and-goes-on _ _ _ _ (known-given _ _ _ c.family_of.ensures c.in-Known.is) refl)
+returns c = c.class_in.ensures ∙ and-goes-on _ _ _ _ (sym c.in_ok-kind.ensures) refl

@@ -1,15 +1,7 @@
 -- `nlri::layout::flow_layout` meets its contract.
-use Rattle.std.proofs.Common.{◌+◌, ◌/◌, get_or, refl, arith}
+use Rattle.std.proofs.Common.{refl, arith}
 use Rattle.nlri.specs.Inner.{layout_with, size_at, flow_layout}
 use Rattle.nlri.proofs.layout.flow_layout.Goals as goal
-
-pub overflow_cast-length : goal.overflow_cast-length
-unfolding size_at flow_layout layout_with
-overflow_cast-length c = omega (arith, c.shared_slice_known-1.given 1)
-
-pub overflow_cast-source : goal.overflow_cast-source
-unfolding size_at flow_layout layout_with
-overflow_cast-source c = omega (arith, c.shared_slice_known-2-1.given c.args.at)
 
 pub overflow_add-group-2 : goal.overflow_add-group-2
 unfolding size_at flow_layout layout_with
@@ -18,10 +10,6 @@ overflow_add-group-2 c = omega (arith, c.requires.group)
 pub bounds-s-at-2 : goal.bounds-s-at-2
 unfolding size_at flow_layout layout_with
 bounds-s-at-2 c = omega (arith, c.requires.group)
-
-pub overflow_cast-group : goal.overflow_cast-group
-overflow_cast-group c =
-    omega (arith, c.shared_slice_known-3-1.given (c.args.at + 1 + get_or c.args.s.now c.args.at 0 / 8))
 
 pub overflow_sub-result-2 : goal.overflow_sub-result-2
 unfolding size_at flow_layout layout_with

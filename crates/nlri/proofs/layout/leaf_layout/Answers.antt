@@ -3,17 +3,9 @@ use Rattle.std.proofs.Common.{refl, arith}
 use Rattle.nlri.specs.Inner.{layout_with, leaf_layout}
 use Rattle.nlri.proofs.layout.leaf_layout.Goals as goal
 
-pub overflow_cast-length : goal.overflow_cast-length
-unfolding leaf_layout layout_with
-overflow_cast-length c = omega (arith, c.shared_slice_known-1.given 1)
-
-pub overflow_cast-key : goal.overflow_cast-key
-unfolding leaf_layout layout_with
-overflow_cast-key c = omega (arith, c.shared_slice_known-2-1.given 3)
-
 pub overflow_add-key-2 : goal.overflow_add-key-2
 unfolding leaf_layout layout_with
-overflow_add-key-2 c = omega (arith, c.shared_slice_known-2-1.given 3)
+overflow_add-key-2 c = omega (arith, c.type_inv.s 3)
 
 pub returns : goal.returns
 unfolding leaf_layout layout_with

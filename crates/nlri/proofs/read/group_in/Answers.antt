@@ -7,21 +7,15 @@ use Rattle.nlri.proofs.read.group_in.Goals as goal
 pub bounds-s-8 : goal.bounds-s-8
 bounds-s-8 c = omega (arith, c.requires.group)
 
-pub overflow_cast-at : goal.overflow_cast-at
-overflow_cast-at c = omega (arith, c.shared_slice_known-2-1.given 8)
-
 pub overflow_add-at : goal.overflow_add-at
-overflow_add-at c = omega (arith, c.shared_slice_known-2-1.given 8)
+overflow_add-at c = omega (arith, c.type_inv.s 8)
 
 pub overflow_add-at-2 : goal.overflow_add-at-2
-overflow_add-at-2 c = omega (arith, c.shared_slice_known-2-1.given 8)
+overflow_add-at-2 c = omega (arith, c.type_inv.s 8)
 
 pub bounds-s-at : goal.bounds-s-at
 unfolding size_at
 bounds-s-at c = omega (arith, c.requires.group)
-
-pub overflow_cast-s : goal.overflow_cast-s
-overflow_cast-s c = omega (arith, c.shared_slice_known-3-1.given (9 + get_or c.args.s.now 8 0 / 8))
 
 pub between-requires : goal.between-requires
 unfolding size_at

@@ -3,8 +3,8 @@ use Rattle.nlri.proofs.Functions.Via.{known-given, unknown-given}
 use Rattle.nlri.proofs.Functions.SPmsis.{s-pmsi-none, s-pmsi-under}
 use Rattle.nlri.proofs.read.is_s_pmsi.Goals as goal
 
-pub returns-in-Unknown : goal.returns-in-Unknown
-returns-in-Unknown c = s-pmsi-none _ _ _ (unknown-given _ _ _ c.family_of.ensures c.in-Unknown.is)
+pub returns-in-Err : goal.returns-in-Err
+returns-in-Err c = s-pmsi-none _ _ _ (unknown-given _ _ _ c.family_of.ensures c.in-Err.is)
 
-pub returns-in-Known : goal.returns-in-Known
-returns-in-Known c = s-pmsi-under _ _ _ _ (known-given _ _ _ c.family_of.ensures c.in-Known.is) c.is_s_pmsi_under.ensures
+pub returns-in-Ok : goal.returns-in-Ok
+returns-in-Ok c = s-pmsi-under _ _ _ _ (known-given _ _ _ c.family_of.ensures c.in-Ok.is) c.is_s_pmsi_under.ensures

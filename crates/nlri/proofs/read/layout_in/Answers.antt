@@ -5,14 +5,6 @@ use Rattle.nlri.specs.Inner.{flow_layout, layout_in, FlowStands}
 use Rattle.nlri.proofs.Functions.Ends.{start-least}
 use Rattle.nlri.proofs.read.layout_in.Goals as goal
 
-pub overflow_cast-route_type : goal.overflow_cast-route_type
-unfolding layout_in
-overflow_cast-route_type c = omega (arith, c.shared_slice_known-2-1.given 0)
-
-pub overflow_cast-length : goal.overflow_cast-length
-unfolding layout_in
-overflow_cast-length c = omega (arith, c.shared_slice_known-3-1.given 1)
-
 pub overflow_sub-length : goal.overflow_sub-length
 unfolding layout_in
 overflow_sub-length c = omega (arith, c.requires.intra_as c.if-route_type-eq-INTRA_AS_I_PMSI.true)

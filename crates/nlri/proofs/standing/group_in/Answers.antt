@@ -9,9 +9,6 @@ overflow_add-length_at c = omega (arith, group-within _ _ c.group_length_at-leng
 pub bounds-nlri-length_at : goal.bounds-nlri-length_at
 bounds-nlri-length_at c = omega (arith, group-within _ _ c.group_length_at-length_at.ensures c.requires)
 
-pub overflow_cast-nlri : goal.overflow_cast-nlri
-overflow_cast-nlri c = omega (arith, c.shared_slice_known-2-1.given c.group_length_at-length_at.result)
-
 pub between-requires : goal.between-requires
 between-requires c = group-within _ _ c.group_length_at-length_at.ensures c.requires
 

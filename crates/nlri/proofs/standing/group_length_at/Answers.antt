@@ -8,11 +8,8 @@ pub bounds-nlri-10 : goal.bounds-nlri-10
 unfolding group_end
 bounds-nlri-10 c = omega arith
 
-pub overflow_cast-result : goal.overflow_cast-result
-overflow_cast-result c = omega (arith, c.shared_slice_known-1.given 10)
-
 pub overflow_add-result-2 : goal.overflow_add-result-2
-overflow_add-result-2 c = omega (arith, c.shared_slice_known-1.given 10)
+overflow_add-result-2 c = omega (arith, c.type_inv.nlri 10)
 
 pub returns : goal.returns
 unfolding source_size size_at

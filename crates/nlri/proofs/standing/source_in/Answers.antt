@@ -8,9 +8,6 @@ pub bounds-nlri-10 : goal.bounds-nlri-10
 unfolding group_end
 bounds-nlri-10 c = omega arith
 
-pub overflow_cast-nlri : goal.overflow_cast-nlri
-overflow_cast-nlri c = omega (arith, c.shared_slice_known-2-1.given 10)
-
 pub between-requires : goal.between-requires
 unfolding group_end source_size size_at
 between-requires c = omega arith

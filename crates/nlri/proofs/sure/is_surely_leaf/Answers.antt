@@ -5,17 +5,11 @@ use Rattle.nlri.proofs.Functions.Sure.{leaf-sure}
 use Rattle.std.proofs.Common.{sym}
 use Rattle.nlri.proofs.sure.is_surely_leaf.Goals as goal
 
-pub overflow_cast-s : goal.overflow_cast-s
-overflow_cast-s c = omega (arith, c.shared_slice_known-2-1.given 3)
-
 pub overflow_add-s : goal.overflow_add-s
-overflow_add-s c = omega (arith, c.shared_slice_known-2-1.given 3)
-
-pub overflow_cast-s-2 : goal.overflow_cast-s-2
-overflow_cast-s-2 c = omega (arith, c.shared_slice_known-3-1.given 1)
+overflow_add-s c = omega (arith, c.type_inv.s 3)
 
 pub is_originator_from-requires : goal.is_originator_from-requires
-is_originator_from-requires c = omega (arith, c.shared_slice_known-2-1.given 3)
+is_originator_from-requires c = omega (arith, c.type_inv.s 3)
 
 pub returns-then-not-is_originator_from : goal.returns-then-not-is_originator_from
 returns-then-not-is_originator_from c t = absurd (opposite t refl)

@@ -7,9 +7,6 @@ use Rattle.nlri.proofs.sure.is_surely_read.Goals as goal
 pub returns-then-s-lt-ENOUGH : goal.returns-then-s-lt-ENOUGH
 returns-then-s-lt-ENOUGH c t = absurd (opposite t refl)
 
-pub overflow_cast-route_type : goal.overflow_cast-route_type
-overflow_cast-route_type c = omega (arith, c.shared_slice_known-2-1.given 0)
-
 pub returns-then-route_type-eq-LEAF : goal.returns-then-route_type-eq-LEAF
 returns-then-route_type-eq-LEAF c t = sure-number _ 4 106 _ (c.is_surely_leaf.ensures t) c.if-route_type-eq-LEAF.true (omega (arith, c.if-s-lt-ENOUGH.false)) (λ five. omega arith)
 

@@ -7,9 +7,6 @@ use Rattle.nlri.proofs.sure.is_surely_to_leaf.Goals as goal
 pub returns-then-s-lt-ENOUGH : goal.returns-then-s-lt-ENOUGH
 returns-then-s-lt-ENOUGH c t = absurd (opposite t refl)
 
-pub overflow_cast-s : goal.overflow_cast-s
-overflow_cast-s c = omega (arith, c.shared_slice_known-2-1.given 0)
-
 pub returns-then-s-eq-LEAF : goal.returns-then-s-eq-LEAF
 returns-then-s-eq-LEAF c t = sure-number _ 4 106 _ (c.is_surely_leaf.ensures t) c.if-s-eq-LEAF.true (omega (arith, c.if-s-lt-ENOUGH.false)) (λ five. omega arith)
 

@@ -1,4 +1,6 @@
 -- `nlri_writing::write::write_fec` meets its contract.
+use Rattle.octets.proofs.Refusals.{refusal_number-not_done}
+use Rattle.nlri_writing.proofs.Puts.{wrote-err, wrote_passed_on}
 use mathlib.Core.Path.{◌≡◌, refl, sym, ◌∙◌, ap}
 use mathlib.Core.Bool.{true}
 use mathlib.Core.List.{List}
@@ -11,7 +13,7 @@ use Rattle.octets.specs.Outcome.{refused, number_of}
 use Rattle.fec_elements.specs.declared.Standing.TheVariants.{Lent}
 use Rattle.fec_elements.specs.Reading.{read_fec}
 use Rattle.nlri.specs.Family.{root_family}
-use Rattle.octets.proofs.Outputs.{wrote_as, wrote-refused}
+use Rattle.octets.proofs.Outputs.{wrote_as}
 use Rattle.nlri.specs.declared.fields.Nlri.{Nlri}
 use Rattle.nlri_writing.specs.Inner.{front_size, end_size, body_with, originator_fits, fec_written}
 use Rattle.nlri_writing.proofs.Puts.{length-with, front-most}
@@ -39,14 +41,14 @@ number bits family n fec e f = f ∙ ap (λ (x : ℕ). number_of (read_fec (Lent
 
 pub returns-then-not-originator_fits : goal.returns-then-not-originator_fits
 unfolding fec_written
-returns-then-not-originator_fits c = wrote-refused _ _ _ _ (no-width _ _ _ _ _ _ _ _ (sym c.originator_fits.ensures ∙ c.if-not-originator_fits.true)) c.refused.ensures
+returns-then-not-originator_fits c = wrote-err _ _ _ (no-width _ _ _ _ _ _ _ _ (sym c.originator_fits.ensures ∙ c.if-not-originator_fits.true))
 
-pub returns-then-fault-ne-DONE : goal.returns-then-fault-ne-DONE
+pub returns-in_err-check : goal.returns-in_err-check
 unfolding fec_written
-returns-then-fault-ne-DONE c =
+returns-in_err-check c =
     let fits = sym c.originator_fits.ensures ∙ c.if-not-originator_fits.false in
-    let same = number c.args.kind.bits _ _ c.args.fec.now c.root_family.ensures c.fault-fault.ensures in
-    wrote-refused _ _ _ _ (ap refused same ∙ no-fec _ _ _ _ _ _ _ _ fits (λ done. c.if-fault-ne-DONE.true (same ∙ done))) c.refused-then-fault-ne-DONE.ensures
+    let same = number c.args.kind.bits _ _ c.args.fec.now c.root_family.ensures c.in_err-check.ensures in
+    wrote_passed_on _ _ _ _ c.from_residual.ensures.1 (ap refused same ∙ no-fec _ _ _ _ _ _ _ _ fits (λ done. refusal_number-not_done _ (same ∙ done)))
 
 pub overflow_add-ends : goal.overflow_add-ends
 overflow_add-ends c =
@@ -62,9 +64,9 @@ pub returns-then-ends-fec : goal.returns-then-ends-fec
 unfolding fec_written
 returns-then-ends-fec c =
     let fits = sym c.originator_fits.ensures ∙ c.if-not-originator_fits.false in
-    let same = number c.args.kind.bits _ _ c.args.fec.now c.root_family.ensures c.fault-fault.ensures in
+    let same = number c.args.kind.bits _ _ c.args.fec.now c.root_family.ensures c.in_ok-check.ensures in
     let size = sized c.args.nlri c.args.fec.now _ _ (search rules) fits c.front_size.ensures c.end_size.ensures in
-    wrote-refused _ _ _ _ (too_long _ _ _ _ _ _ _ _ fits (sym same ∙ c.if-fault-ne-DONE.false) (lt-ltb 255 (length (body c.args.nlri c.args.fec.now)) (omega (arith, size.0, c.if-ends-fec.true)))) c.refused-then-ends-fec.ensures
+    wrote-err _ _ _ (too_long _ _ _ _ _ _ _ _ fits (sym same) (lt-ltb 255 (length (body c.args.nlri c.args.fec.now)) (omega (arith, size.0, c.if-ends-fec.true))))
 
 pub overflow_add-ends-2 : goal.overflow_add-ends-2
 overflow_add-ends-2 c =
@@ -80,12 +82,12 @@ pub returns-then-output-ends : goal.returns-then-output-ends
 unfolding fec_written
 returns-then-output-ends c =
     let fits = sym c.originator_fits.ensures ∙ c.if-not-originator_fits.false in
-    let same = number c.args.kind.bits _ _ c.args.fec.now c.root_family.ensures c.fault-fault.ensures in
+    let same = number c.args.kind.bits _ _ c.args.fec.now c.root_family.ensures c.in_ok-check.ensures in
     let size = sized c.args.nlri c.args.fec.now _ _ (search rules) fits c.front_size.ensures c.end_size.ensures in
-    wrote-refused _ _ _ _ (no-space _ _ _ _ _ _ _ _ fits (sym same ∙ c.if-fault-ne-DONE.false) (le-ltb 255 (length (body c.args.nlri c.args.fec.now)) (omega (arith, size.0, c.if-ends-fec.false))) refl refl (omega (arith, size.0, c.if-output-ends.true))) c.refused-then-output-ends.ensures
+    wrote-err _ _ _ (no-space _ _ _ _ _ _ _ _ fits (sym same) (le-ltb 255 (length (body c.args.nlri c.args.fec.now)) (omega (arith, size.0, c.if-ends-fec.false))) refl refl (omega (arith, size.0, c.if-output-ends.true)))
 
-pub put_fec-requires : goal.put_fec-requires
-put_fec-requires c =
+pub put_between-requires : goal.put_between-requires
+put_between-requires c =
     let fits = sym c.originator_fits.ensures ∙ c.if-not-originator_fits.false in
     let size = sized c.args.nlri c.args.fec.now _ _ (search rules) fits c.front_size.ensures c.end_size.ensures in
     (originator-sized _ _ fits, record { exact = size.0; short = omega (arith, size.1, c.if-ends-fec.false); room = omega (arith, c.if-output-ends.false) })
@@ -94,6 +96,6 @@ pub returns : goal.returns
 unfolding fec_written
 returns c =
     let fits = sym c.originator_fits.ensures ∙ c.if-not-originator_fits.false in
-    let same = number c.args.kind.bits _ _ c.args.fec.now c.root_family.ensures c.fault-fault.ensures in
+    let same = number c.args.kind.bits _ _ c.args.fec.now c.root_family.ensures c.in_ok-check.ensures in
     let size = sized c.args.nlri c.args.fec.now _ _ (search rules) fits c.front_size.ensures c.end_size.ensures in
-    wrote_as _ _ _ _ _ (all-given _ _ _ _ _ _ _ _ fits (sym same ∙ c.if-fault-ne-DONE.false) (le-ltb 255 (length (body c.args.nlri c.args.fec.now)) (omega (arith, size.0, c.if-ends-fec.false))) refl refl (omega (arith, size.0, c.if-output-ends.false))) c.put_fec.ensures
+    wrote_as _ _ _ _ _ (all-given _ _ _ _ _ _ _ _ fits (sym same) (le-ltb 255 (length (body c.args.nlri c.args.fec.now)) (omega (arith, size.0, c.if-ends-fec.false))) refl refl (omega (arith, size.0, c.if-output-ends.false))) c.put_between.ensures

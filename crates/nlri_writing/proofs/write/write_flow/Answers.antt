@@ -1,9 +1,10 @@
 -- `nlri_writing::write::write_flow` meets its contract.
+use Rattle.nlri_writing.proofs.Puts.{wrote-err}
 use mathlib.Core.Path.{◌≡◌, refl}
 use native.Mathlib.Omega.{arith}
 use lib.ListN.{length}
 use lib.Dec.{ltb, eqb}
-use Rattle.octets.proofs.Outputs.{wrote_as, wrote-refused}
+use Rattle.octets.proofs.Outputs.{wrote_as}
 use Rattle.octets.proofs.Choice.{flag_true, flag-false}
 use Rattle.nlri.specs.Fields.{is_discarded}
 use Rattle.nlri.specs.Answers.{struct_fields}
@@ -17,7 +18,7 @@ use Rattle.nlri_writing.proofs.write.write_flow.Goals as goal
 
 pub returns-then-not-addresses_fit : goal.returns-then-not-addresses_fit
 unfolding flow_written
-returns-then-not-addresses_fit c = wrote-refused _ _ _ _ (no-width _ _ _ _ _ _ _ _ (sym c.addresses_fit.ensures ∙ c.if-not-addresses_fit.true)) c.refused.ensures
+returns-then-not-addresses_fit c = wrote-err _ _ _ (no-width _ _ _ _ _ _ _ _ (sym c.addresses_fit.ensures ∙ c.if-not-addresses_fit.true))
 
 pub is_discarded-requires : goal.is_discarded-requires
 is_discarded-requires c =
@@ -30,7 +31,7 @@ pub returns-then-is_discarded : goal.returns-then-is_discarded
 unfolding flow_written is_discarded struct_fields
 returns-then-is_discarded c =
     let fits = sym c.addresses_fit.ensures ∙ c.if-not-addresses_fit.false in
-    wrote-refused _ _ _ _ (discards _ _ _ _ _ _ _ _ fits refl refl refl (flag_true _ _ c.is_discarded.ensures c.if-is_discarded.true)) c.refused-then-is_discarded.ensures
+    wrote-err _ _ _ (discards _ _ _ _ _ _ _ _ fits refl refl refl (flag_true _ _ c.is_discarded.ensures c.if-is_discarded.true))
 
 pub overflow_add-size : goal.overflow_add-size
 unfolding flow_body
@@ -49,7 +50,7 @@ pub returns-then-output-size : goal.returns-then-output-size
 unfolding flow_written is_discarded struct_fields
 returns-then-output-size c =
     let fits = sym c.addresses_fit.ensures ∙ c.if-not-addresses_fit.false in
-    wrote-refused _ _ _ _ (no-space _ _ _ _ _ _ _ _ fits refl refl refl (flag-false _ _ c.is_discarded.ensures c.if-is_discarded.false) (omega (arith, c.flow_size-size.ensures, c.if-output-size.true))) c.refused-then-output-size.ensures
+    wrote-err _ _ _ (no-space _ _ _ _ _ _ _ _ fits refl refl refl (flag-false _ _ c.is_discarded.ensures c.if-is_discarded.false) (omega (arith, c.flow_size-size.ensures, c.if-output-size.true)))
 
 pub put_flow-requires : goal.put_flow-requires
 unfolding flow_body

@@ -1,4 +1,5 @@
 -- `nlri_writing::write::write_i_pmsi` meets its contract.
+use Rattle.nlri_writing.proofs.Puts.{wrote-err}
 use mathlib.Core.Path.{◌≡◌, refl}
 use mathlib.Core.Bool.{true}
 use mathlib.Core.List.{List, []}
@@ -6,7 +7,7 @@ use Prim.Native.Nat.{ℕ, ◌+◌, ◌≤◌}
 use native.Mathlib.Omega.{arith}
 use lib.ListN.{length}
 use lib.Dec.{eqb}
-use Rattle.octets.proofs.Outputs.{wrote_as, wrote-refused}
+use Rattle.octets.proofs.Outputs.{wrote_as}
 use Rattle.nlri.specs.declared.fields.Nlri.{Nlri}
 use Rattle.nlri_writing.specs.Inner.{front_size, end_size, body_with, originator_fits, i_pmsi_written}
 use Rattle.nlri_writing.proofs.Puts.{length-with, front-most}
@@ -30,7 +31,7 @@ sized nlri front back eight fits f b =
 
 pub returns-then-not-originator_fits : goal.returns-then-not-originator_fits
 unfolding i_pmsi_written
-returns-then-not-originator_fits c = wrote-refused _ _ _ _ (no-width _ _ _ _ _ _ _ _ (sym c.originator_fits.ensures ∙ c.if-not-originator_fits.true)) c.refused.ensures
+returns-then-not-originator_fits c = wrote-err _ _ _ (no-width _ _ _ _ _ _ _ _ (sym c.originator_fits.ensures ∙ c.if-not-originator_fits.true))
 
 pub overflow_add-size : goal.overflow_add-size
 overflow_add-size c =
@@ -47,10 +48,10 @@ unfolding i_pmsi_written
 returns-then-output-size c =
     let fits = sym c.originator_fits.ensures ∙ c.if-not-originator_fits.false in
     let size = sized c.args.nlri _ _ (search rules) fits c.front_size.ensures c.end_size.ensures in
-    wrote-refused _ _ _ _ (no-space _ _ _ _ _ _ _ _ fits refl refl refl refl (omega (arith, size.0, c.if-output-size.true))) c.refused-then-output-size.ensures
+    wrote-err _ _ _ (no-space _ _ _ _ _ _ _ _ fits refl refl refl refl (omega (arith, size.0, c.if-output-size.true)))
 
-pub put_i_pmsi-requires : goal.put_i_pmsi-requires
-put_i_pmsi-requires c =
+pub put_between-requires : goal.put_between-requires
+put_between-requires c =
     let fits = sym c.originator_fits.ensures ∙ c.if-not-originator_fits.false in
     let size = sized c.args.nlri _ _ (search rules) fits c.front_size.ensures c.end_size.ensures in
     (originator-sized _ _ fits, record { exact = omega (arith, size.0); short = omega (arith, size.1); room = c.if-output-size.false })
@@ -60,4 +61,4 @@ unfolding i_pmsi_written
 returns c =
     let fits = sym c.originator_fits.ensures ∙ c.if-not-originator_fits.false in
     let size = sized c.args.nlri _ _ (search rules) fits c.front_size.ensures c.end_size.ensures in
-    wrote_as _ _ _ _ _ (all-given _ _ _ _ _ _ _ _ fits refl refl refl refl (omega (arith, size.0, c.if-output-size.false))) c.put_i_pmsi.ensures
+    wrote_as _ _ _ _ _ (all-given _ _ _ _ _ _ _ _ fits refl refl refl refl (omega (arith, size.0, c.if-output-size.false))) c.put_between.ensures

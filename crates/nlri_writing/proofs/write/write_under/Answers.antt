@@ -1,7 +1,8 @@
 -- `nlri_writing::write::write_under` meets its contract.
+use Rattle.nlri_writing.proofs.Puts.{wrote-err}
 use native.Mathlib.Omega.{arith}
 use lib.ListN.{length}
-use Rattle.octets.proofs.Outputs.{wrote_as, wrote-refused}
+use Rattle.octets.proofs.Outputs.{wrote_as}
 use Rattle.octets.proofs.Choice.{flag_true, flag-false}
 use Rattle.nlri.specs.Answers.{struct_fields}
 use Rattle.nlri.proofs.Definitions.Table.{known-least}
@@ -26,7 +27,7 @@ returns-then-has_fec c =
 
 pub returns-then-route_type-gt-SOURCE_TREE_JOIN : goal.returns-then-route_type-gt-SOURCE_TREE_JOIN
 unfolding struct_fields
-returns-then-route_type-gt-SOURCE_TREE_JOIN c = wrote-refused _ _ _ _ (type-refused _ _ _ (no-mldp _ (flag-false _ _ c.has_key.ensures c.if-has_key.false) (flag-false _ _ c.has_fec.ensures c.if-has_fec.false) c.if-route_type-gt-SOURCE_TREE_JOIN.true)) c.refused.ensures
+returns-then-route_type-gt-SOURCE_TREE_JOIN c = wrote-err _ _ _ (type-refused _ _ _ (no-mldp _ (flag-false _ _ c.has_key.ensures c.if-has_key.false) (flag-false _ _ c.has_fec.ensures c.if-has_fec.false) c.if-route_type-gt-SOURCE_TREE_JOIN.true))
 
 pub write_flow-requires : goal.write_flow-requires
 write_flow-requires c = c.requires
@@ -39,7 +40,7 @@ returns-then-route_type-gt-INTER_AS_I_PMSI c =
 
 pub returns-then-route_type-lt-INTRA_AS_I_PMSI : goal.returns-then-route_type-lt-INTRA_AS_I_PMSI
 unfolding struct_fields
-returns-then-route_type-lt-INTRA_AS_I_PMSI c = wrote-refused _ _ _ _ (type-refused _ _ _ (λ h. omega (arith, known-least _ h, c.if-route_type-lt-INTRA_AS_I_PMSI.true))) c.refused-then-route_type-lt-INTRA_AS_I_PMSI.ensures
+returns-then-route_type-lt-INTRA_AS_I_PMSI c = wrote-err _ _ _ (type-refused _ _ _ (λ h. omega (arith, known-least _ h, c.if-route_type-lt-INTRA_AS_I_PMSI.true)))
 
 pub returns : goal.returns
 unfolding struct_fields

@@ -1,10 +1,12 @@
 -- `octets::order::comes_before_by_words` meets its contract: as far as the loop has come, both begin alike.
-use Prim.Native.Nat.{ℕ, ◌+◌, ◌-◌}
-use mathlib.Core.Path.{refl}
+use Prim.Native.Nat.{ℕ, ◌+◌, ◌*◌, ◌-◌}
+use mathlib.Core.Path.{◌≡◌, refl}
 use mathlib.Core.List.{List}
+use lib.ListN.{take}
 use borrow.Author.Rules.{rules}
 use Rattle.octets.specs.Octets.{low_first, number_in}
 use Rattle.octets.proofs.AllOctets.{octets-of}
+use Rattle.octets.proofs.Lists.{next-block}
 use Rattle.octets.proofs.LowFirst.{same_low}
 use Rattle.octets.proofs.NetworkOrder.{same_number}
 use Rattle.octets.proofs.Orders.{parts-decide, parts-differ, parts-alike, lengths-decide, alike-before}
@@ -17,35 +19,38 @@ pub returns-then-eight_low_first : goal.returns-then-eight_low_first
 returns-then-eight_low_first c =
     let s = c.args in
     let l = c.loop-i in
-    let each-a = octets-of s.a.now (λ k. (c.shared_slice_known-1.given k).fits) in
-    let each-b = octets-of s.b.now (λ k. (c.shared_slice_known-2-1.given k).fits) in
-    parts-decide s.a.now s.b.now l.i 8 l.invariant each-a each-b (search rules) (search rules) _ _ c.eight.ensures c.eight-then-eight_low_first.ensures
-    (parts-differ low_first s.a.now s.b.now l.i 8 _ _ c.eight_low_first.ensures c.eight_low_first-in-loop-i.ensures c.if-eight_low_first.true)
+    let each-a = octets-of s.a.now (λ k. (c.type_inv.a k).fits) in
+    let each-b = octets-of s.b.now (λ k. (c.type_inv.b k).fits) in
+    parts-decide s.a.now s.b.now (l.i * 8) 8 l.invariant each-a each-b (search rules) (search rules) _ _ c.eight.ensures c.eight-then-eight_low_first.ensures
+    (parts-differ low_first s.a.now s.b.now (l.i * 8) 8 _ _ c.eight_low_first.ensures c.eight_low_first-in-loop-i.ensures c.if-eight_low_first.true)
 
 pub loop-i-preserved : goal.loop-i-preserved
 loop-i-preserved c =
     let s = c.args in
     let l = c.loop-i in
-    let each-a = octets-of s.a.now (λ k. (c.shared_slice_known-1.given k).fits) in
-    let each-b = octets-of s.b.now (λ k. (c.shared_slice_known-2-1.given k).fits) in
-    parts-alike low_first s.a.now s.b.now l.i 8 _ _ c.eight_low_first.ensures c.eight_low_first-in-loop-i.ensures (same_low each-a each-b l.i 8 (search rules) (search rules)) l.invariant c.if-eight_low_first.false
+    let each-a = octets-of s.a.now (λ k. (c.type_inv.a k).fits) in
+    let each-b = octets-of s.b.now (λ k. (c.type_inv.b k).fits) in
+    rw (next-block l.i 8)
+    (parts-alike low_first s.a.now s.b.now (l.i * 8) 8 _ _ c.eight_low_first.ensures c.eight_low_first-in-loop-i.ensures (same_low each-a each-b (l.i * 8) 8 (search rules) (search rules)) l.invariant c.if-eight_low_first.false)
 
 pub returns-then-x-y : goal.returns-then-x-y
 returns-then-x-y c =
     let s = c.args in
     let l = c.loop-i in
-    let last : ℕ = c.shorter-size.result - 8 in
-    let each-a = octets-of s.a.now (λ k. (c.shared_slice_known-1.given k).fits) in
-    let each-b = octets-of s.b.now (λ k. (c.shared_slice_known-2-1.given k).fits) in
-    parts-decide s.a.now s.b.now last 8 (alike-before s.a.now s.b.now last l.i (search rules) l.invariant) each-a each-b (search rules) (search rules) _ _ c.eight-x.ensures c.eight-y.ensures
+    let last : ℕ = c.min-size.result - 8 in
+    let each-a = octets-of s.a.now (λ k. (c.type_inv.a k).fits) in
+    let each-b = octets-of s.b.now (λ k. (c.type_inv.b k).fits) in
+    let front : take last s.a.now ≡ take last s.b.now = alike-before s.a.now s.b.now last (l.i * 8) (search rules) l.invariant in
+    parts-decide s.a.now s.b.now last 8 front each-a each-b (search rules) (search rules) _ _ c.eight-x.ensures c.eight-y.ensures
     (parts-differ (λ (s : List ℕ). number_in s 0) s.a.now s.b.now last 8 _ _ c.eight-x.ensures c.eight-y.ensures c.if-x-y.true)
 
 pub returns : goal.returns
 returns c =
     let s = c.args in
     let l = c.loop-i in
-    let last : ℕ = c.shorter-size.result - 8 in
-    let each-a = octets-of s.a.now (λ k. (c.shared_slice_known-1.given k).fits) in
-    let each-b = octets-of s.b.now (λ k. (c.shared_slice_known-2-1.given k).fits) in
+    let last : ℕ = c.min-size.result - 8 in
+    let each-a = octets-of s.a.now (λ k. (c.type_inv.a k).fits) in
+    let each-b = octets-of s.b.now (λ k. (c.type_inv.b k).fits) in
+    let front : take last s.a.now ≡ take last s.b.now = alike-before s.a.now s.b.now last (l.i * 8) (search rules) l.invariant in
     lengths-decide s.a.now s.b.now (last + 8) (search rules)
-    (parts-alike (λ (s : List ℕ). number_in s 0) s.a.now s.b.now last 8 _ _ c.eight-x.ensures c.eight-y.ensures (same_number each-a each-b last 8 (search rules) (search rules)) (alike-before s.a.now s.b.now last l.i (search rules) l.invariant) c.if-x-y.false) _ refl
+    (parts-alike (λ (s : List ℕ). number_in s 0) s.a.now s.b.now last 8 _ _ c.eight-x.ensures c.eight-y.ensures (same_number each-a each-b last 8 (search rules) (search rules)) front c.if-x-y.false) _ refl

@@ -10,18 +10,18 @@ use Rattle.octets.proofs.order.is_short_same.Goals as goal
 pub returns-then-a-eq4 : goal.returns-then-a-eq4
 returns-then-a-eq4 c =
     let s = c.args in
-    let each-a = octets-of s.a.now (λ k. (c.shared_slice_known-1.given k).fits) in
-    let each-b = octets-of s.b.now (λ k. (c.shared_slice_known-2-1.given k).fits) in
+    let each-a = octets-of s.a.now (λ k. search rules) in
+    let each-b = octets-of s.b.now (λ k. search rules) in
     parts-end low_first s.a.now s.b.now 0 4 _ _ c.four_low_first.ensures c.four_low_first-then-a-eq4.ensures (same_low each-a each-b 0 4 (search rules) (search rules)) refl (search rules) (search rules)
 
 pub loop-i-init : goal.loop-i-init
-loop-i-init c = (search rules, refl)
+loop-i-init c = refl
 
 pub returns-then-a-i : goal.returns-then-a-i
-returns-then-a-i c = let l = c.loop-i in octet-other _ _ l.i c.if-a-i.true
+returns-then-a-i c = octet-other _ _ c.loop-i.i c.if-a-i.true
 
 pub loop-i-preserved : goal.loop-i-preserved
-loop-i-preserved c = let l = c.loop-i in (search rules, octet-alike _ _ l.i l.invariant.1 (search rules) (search rules) c.if-a-i.false)
+loop-i-preserved c = let l = c.loop-i in octet-alike _ _ l.i l.invariant (search rules) (search rules) c.if-a-i.false
 
 pub returns : goal.returns
-returns c = let l = c.loop-i in alike-whole _ _ l.i l.invariant.1 (search rules) (search rules)
+returns c = let l = c.loop-i in alike-whole _ _ l.i l.invariant (search rules) (search rules)

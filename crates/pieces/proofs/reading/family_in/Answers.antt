@@ -4,5 +4,5 @@ use native.Mathlib.Omega.{arith}
 use Rattle.nlri.proofs.Definitions.Families.{family-refuses}
 use Rattle.pieces.proofs.reading.family_in.Goals as goal
 
-pub returns-then-afi-gt-LAST_AFI : goal.returns-then-afi-gt-LAST_AFI
-returns-then-afi-gt-LAST_AFI c = sym (family-refuses _ (λ e. omega (arith, c.if-afi-gt-LAST_AFI.true, e)) (λ e. omega (arith, c.if-afi-gt-LAST_AFI.true, e)))
+pub returns-in_default : goal.returns-in_default
+returns-in_default c = sym (family-refuses _ (λ e. omega (arith, c.in_default.ensures)) (λ e. omega (arith, c.in_default.ensures)))

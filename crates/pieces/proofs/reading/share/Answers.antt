@@ -1,17 +1,11 @@
 -- `pieces::reading::share` meets its contract.
-use borrow.Author.Rules.{rules}
-use Rattle.octets.proofs.Tests.{tests}
-use Rattle.pieces.specs.Feeding.{share_of}
-use Rattle.pieces.proofs.Functions.{share-none}
+use mathlib.Core.Path.{◌∙◌, ap}
+use Prim.Native.Nat.{min}
+use native.Mathlib.Omega.{arith}
+use Rattle.pieces.proofs.Functions.{share-least}
 use Rattle.pieces.proofs.reading.share.Goals as goal
 
-pub returns-then-kept-size : goal.returns-then-kept-size
-unfolding share_of
-returns-then-kept-size c = (search tests, search rules, search rules)
-
-pub returns-then-wanted-kept : goal.returns-then-wanted-kept
-returns-then-wanted-kept c = (search (rules, share-none), search rules, search rules)
-
 pub returns : goal.returns
-unfolding share_of
-returns c = (search tests, search rules, search rules)
+returns c =
+    let a = c.args in
+    (c.min.ensures ∙ ap (λ n. min n a.size) c.saturating_sub.ensures ∙ share-least a.wanted a.kept a.size, omega arith, omega arith)

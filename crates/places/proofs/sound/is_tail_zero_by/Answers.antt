@@ -11,12 +11,12 @@ use borrow.Author.Rules.{rules}
 use Rattle.places.proofs.sound.is_tail_zero_by.Goals as goal
 
 pub are_each_zero-requires : goal.are_each_zero-requires
-are_each_zero-requires c =
+are_each_zero-requires g c =
     let s = c.args in
-    ap length c.between.ensures ∙ length_part _ (127 - s.block) s.block (search rules) ∙ sym (ap length c.between-2.ensures ∙ length_part _ s.end s.block (search rules))
+    ap length c.between.ensures ∙ length_part _ (127 - g.row.BLOCK) g.row.BLOCK (search rules) ∙ sym (ap length c.between-2.ensures ∙ length_part _ s.end g.row.BLOCK (search rules))
 
 pub returns : goal.returns
-returns c =
+returns g c =
     let s = c.args in
-    zero-overlap _ _ (127 - s.block) s.block s.end s.block (search rules) (search rules) (search rules)
+    zero-overlap _ _ (127 - g.row.BLOCK) g.row.BLOCK s.end g.row.BLOCK (search rules) (search rules) (search rules)
     (c.are_each_zero.ensures ∙ ap₂ (λ (a b : List ℕ). both (all_zero a) (all_zero b)) c.between.ensures c.between-2.ensures)

@@ -1,33 +1,22 @@
 -- `plan::commonest::count_wanting` meets its contract.
-use Rattle.plan.proofs.Leaders.{counting}
+use Rattle.plan.proofs.Leaders.{Counting, counting-first, counting-other, counting-again, counting-one, counting-last}
+use mathlib.Core.Path.{subst, sym}
+use Rattle.plan.proofs.commonest.count_wanting.Goals.{else-wants-via-then-wants+else-not-have, else-wants-via-else-wants}
 use Rattle.plan.proofs.commonest.count_wanting.Goals as goal
 
-pub count_of-left-requires : goal.count_of-left-requires
-count_of-left-requires c = search counting
+pub loop-flow-init : goal.loop-flow-init
+loop-flow-init c = subst (Counting c.args.wanted.now c.args.flows.now 0) (sym c.again-rest.ensures) (counting-first _ _ c.requires)
 
-pub loop-left-init : goal.loop-left-init
-loop-left-init c = search counting
+pub loop-flow-preserved-then-not-have : goal.loop-flow-preserved-then-not-have
+loop-flow-preserved-then-not-have c =
+    counting-one c.loop-flow.invariant c.in-Some.ensures.steps _ c.wants.ensures _ _ c.have.ensures c.again.ensures c.if-wants.true c.if-not-have.true
 
-pub after_item-next-requires : goal.after_item-next-requires
-after_item-next-requires c = search counting
-
-pub overflow_sub-left : goal.overflow_sub-left
-overflow_sub-left c = search counting
-
-pub counts-n-requires : goal.counts-n-requires
-counts-n-requires c = search counting
-
-pub overflow_add-n : goal.overflow_add-n
-overflow_add-n c = search counting
-
-pub overflow_sub-left-in-loop-left : goal.overflow_sub-left-in-loop-left
-overflow_sub-left-in-loop-left c = search counting
-
-pub loop-left-smaller : goal.loop-left-smaller
-loop-left-smaller c = search counting
-
-pub loop-left-preserved : goal.loop-left-preserved
-loop-left-preserved c = search counting
+pub loop-flow-preserved : goal.loop-flow-preserved
+loop-flow-preserved c =
+    elim c.else-wants.branch [
+      | else-wants-via-then-wants+else-not-have w ↦ counting-again c.loop-flow.invariant c.in-Some.ensures.steps _ c.wants.ensures _ _ w.have.ensures w.again.ensures w.if-not-have.false
+      | else-wants-via-else-wants w ↦ counting-other c.loop-flow.invariant c.in-Some.ensures.steps _ c.wants.ensures w.if-wants.false
+    ]
 
 pub returns : goal.returns
-returns c = search counting
+returns c = counting-last c.loop-flow.invariant c.in_default.ensures.steps.0

@@ -1,22 +1,11 @@
 -- `plan::planning::stands_out` meets its contract.
-use Rattle.plan.proofs.Loops.{fields}
-use Rattle.plan.proofs.OwnPlaces.{out-same, out_listed}
+use mathlib.Core.Path.{◌∙◌, ap}
+use Rattle.plan.specs.Flows.{is_listed}
+use Rattle.plan.proofs.OwnPlaces.{out-same, out-listed}
 use Rattle.plan.proofs.planning.stands_out.Goals as goal
 
-pub wanted_at-requires : goal.wanted_at-requires
-wanted_at-requires c = search fields
+pub returns-then-not-wants : goal.returns-then-not-wants
+returns-then-not-wants c = out-listed _ _ _ _ c.wants.ensures c.if-not-wants.true _ (c.have.ensures ∙ ap (is_listed c.args.flow.now) c.again.ensures)
 
-pub wanted_at-requires-2 : goal.wanted_at-requires-2
-wanted_at-requires-2 c = search fields
-
-pub is_same-requires : goal.is_same-requires
-is_same-requires c = search fields
-
-pub returns-then-is_same : goal.returns-then-is_same
-returns-then-is_same c = search (fields, out-same)
-
-pub is_some_related-requires : goal.is_some_related-requires
-is_some_related-requires c = search fields
-
-pub returns : goal.returns
-returns c = search (fields, out_listed)
+pub returns-else-not-wants : goal.returns-else-not-wants
+returns-else-not-wants c = out-same _ _ _ _ c.wants.ensures c.if-not-wants.false

@@ -1,9 +1,11 @@
 -- `plan::proposal::is_each_once` meets its contract.
-use Rattle.plan.proofs.PlaceLoops.{Once}
+use Rattle.std.proofs.Common.{◌≡◌, length}
+use Rattle.plan.specs.Judging.{no_repeat}
+use Rattle.plan.proofs.PlaceLoops.{routes_of, Ends}
 use Rattle.plan.proofs.proposal.is_each_once.Given as goal
 
-abbrev pub invariant-loop-left : goal.invariant-loop-left
-invariant-loop-left l = Once l.places l.count l.at l.left
+abbrev pub invariant-loop-place : goal.invariant-loop-place
+invariant-loop-place l = (no_repeat (routes_of l.places) ≡ no_repeat (routes_of l.rest)) × Ends l.rest
 
-abbrev pub decreases-loop-left : goal.decreases-loop-left
-decreases-loop-left l = l.left
+abbrev pub decreases-loop-place : goal.decreases-loop-place
+decreases-loop-place l = length l.rest

@@ -1,31 +1,16 @@
 -- `plan::proposal::is_served` meets its contract.
-use Rattle.plan.proofs.Loops.{fields}
+use Rattle.plan.specs.Inner.{vrf_in}
 use Rattle.plan.proofs.JudgedPlaces.{served-none, best-within, best-ends, served-some}
 use Rattle.plan.proofs.proposal.is_served.Goals as goal
 
-pub source_at-requires : goal.source_at-requires
-source_at-requires c = search fields
+pub returns-in_default : goal.returns-in_default
+returns-in_default c = served-none _ _ _ _ _ c.in_default.ensures
 
-pub group_at-requires : goal.group_at-requires
-group_at-requires c = search fields
-
-pub best_for-best-requires : goal.best_for-best-requires
-best_for-best-requires c = search fields
-
-pub returns-then-best-eq0 : goal.returns-then-best-eq0
-returns-then-best-eq0 c = search (fields, served-none)
-
-pub between-requires : goal.between-requires
-between-requires c = search (fields, best-within)
+pub between-place-requires : goal.between-place-requires
+between-place-requires c = best-within _ (vrf_in c.args.vrf.now) c.args.flow.now _ _ _ c.in-Some.ensures
 
 pub attribute_in-requires : goal.attribute_in-requires
-attribute_in-requires c = search (fields, best-ends)
-
-pub wanted_at-requires : goal.wanted_at-requires
-wanted_at-requires c = search fields
-
-pub is_same-requires : goal.is_same-requires
-is_same-requires c = search fields
+attribute_in-requires c = best-ends _ (vrf_in c.args.vrf.now) c.args.flow.now _ _ _ c.in-Some.ensures _ c.between-place.ensures
 
 pub returns : goal.returns
-returns c = search (fields, served-some)
+returns c = served-some _ _ _ _ _ _ c.in-Some.ensures _ _ _ c.between-place.ensures c.attribute_in.ensures c.wanted.ensures _ c.is_same.ensures

@@ -1,10 +1,6 @@
 -- `salvage::salvaging::look_at_all` meets its contract: place by place, table and list are those of the places looked at.
-use Prim.Native.Nat.{◌-◌, ◌≤◌}
 use Rattle.salvage.specs.Salvaging.{Upto}
 use Rattle.salvage.proofs.salvaging.look_at_all.Given as goal
 
 abbrev pub invariant-loop-number : goal.invariant-loop-number
-invariant-loop-number l = (l.number ≤ l.places) × Upto l.afi l.damaged l.initial.list l.number l.table l.list l.count
-
-abbrev pub decreases-loop-number : goal.decreases-loop-number
-decreases-loop-number l = l.places - l.number
+invariant-loop-number l = Upto l.afi l.damaged l.initial.list l.number l.table l.list l.count

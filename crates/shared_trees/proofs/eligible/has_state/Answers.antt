@@ -8,16 +8,8 @@ use Rattle.lists.proofs.Going.{going, going_next, going-stop, going-last}
 use Rattle.shared_trees.proofs.Endings.{all_left, all-going, left_here, next_start, left-next, passed-going}
 use Rattle.shared_trees.proofs.eligible.has_state.Goals as goal
 
-pub count_of-count-requires : goal.count_of-count-requires
-unfolding some_item
-count_of-count-requires c = search going
-
 pub loop-left-init : goal.loop-left-init
 loop-left-init c = let sized = c.requires.0 in (all-going _ _ sized c.count_of-count.ensures.value, all_left _ sized c.count_of-count.ensures.value)
-
-pub left_from_ending-left-requires : goal.left_from_ending-left-requires
-unfolding some_item
-left_from_ending-left-requires c = search going
 
 pub returns-then-left-eq0 : goal.returns-then-left-eq0
 unfolding some_item
@@ -34,14 +26,6 @@ pub returns-then-is_state : goal.returns-then-is_state
 unfolding some_item
 returns-then-is_state c =
     going-stop _ _ _ (passed-going _ c.requires.1 c.left_from_ending-left.ensures c.loop-left.invariant.0) _ (omega (arith, c.if-left-eq0.false)) (flag_true _ _ (rw c.start_of_last-at.ensures at c.is_state.ensures) c.if-is_state.true) refl
-
-pub overflow_sub-left : goal.overflow_sub-left
-unfolding some_item
-overflow_sub-left c = search going
-
-pub loop-left-smaller : goal.loop-left-smaller
-unfolding some_item
-loop-left-smaller c = search going
 
 pub loop-left-preserved : goal.loop-left-preserved
 loop-left-preserved c =

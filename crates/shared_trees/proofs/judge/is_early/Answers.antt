@@ -1,12 +1,10 @@
 -- `shared_trees::judge::is_early` meets its contract.
-use Rattle.octets.proofs.Tests.{flags}
-use Rattle.shared_trees.specs.Told.{is_early}
+use mathlib.Core.Path.{◌∙◌}
+use Rattle.shared_trees.proofs.Early.{early-told, early-refused}
 use Rattle.shared_trees.proofs.judge.is_early.Goals as goal
 
-pub returns-then-number-ne-DONE : goal.returns-then-number-ne-DONE
-unfolding is_early
-returns-then-number-ne-DONE c = search flags
+pub returns-in-Ok : goal.returns-in-Ok
+returns-in-Ok c = early-told _ _ c.in-Ok.is
 
-pub returns-else-number-ne-DONE : goal.returns-else-number-ne-DONE
-unfolding is_early
-returns-else-number-ne-DONE c = search flags
+pub returns-in-Err : goal.returns-in-Err
+returns-in-Err c = c.ne.ensures ∙ early-refused _ _ c.in-Err.is

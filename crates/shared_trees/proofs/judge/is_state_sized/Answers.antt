@@ -1,16 +1,11 @@
 -- `shared_trees::judge::is_state_sized` meets its contract.
-use Rattle.lists.proofs.Going.{going}
+use mathlib.Core.Path.{◌∙◌}
+use borrow.Author.Tests.{ne_eqb}
 use Rattle.shared_trees.proofs.Sized.{state-other, state-second}
 use Rattle.shared_trees.proofs.judge.is_state_sized.Goals as goal
 
-pub item_field-requires : goal.item_field-requires
-item_field-requires c = search going
+pub returns-then-field-size : goal.returns-then-field-size
+returns-then-field-size c = state-second _ _ _ c.field.ensures _ c.if-field-size.true c.field-then-field-size.ensures
 
-pub returns-then-item_field-size : goal.returns-then-item_field-size
-returns-then-item_field-size c = state-other _ _ _ c.item_field.ensures c.if-item_field-size.true
-
-pub item_field-requires-2 : goal.item_field-requires-2
-item_field-requires-2 c = search going
-
-pub returns : goal.returns
-returns c = state-second _ _ _ c.item_field.ensures _ c.if-item_field-size.false c.item_field-2.ensures
+pub returns-else-field-size : goal.returns-else-field-size
+returns-else-field-size c = ne_eqb _ _ c.if-field-size.false ∙ state-other _ _ _ c.field.ensures c.if-field-size.false

@@ -1,4 +1,5 @@
 -- `table::installing::enter_new` meets its contract.
+use borrow.Author.Rules.{rules}
 use mathlib.Core.Path.{◌≡◌, subst}
 use Prim.Native.Nat.{ℕ}
 use native.Mathlib.Omega.{arith}
@@ -10,7 +11,7 @@ use Rattle.routes.proofs.Statements.Images.{length-routes}
 use Rattle.changes.specs.Changing.{added_at}
 use Rattle.changes.proofs.Ranks.{rank_most}
 use Rattle.places.proofs.Indexes.{header-within, places-within}
-use Rattle.table.proofs.Installs.{leaves-as, route-fits, install-full, install-adds}
+use Rattle.table.proofs.Installs.{route-fits, install-full, install-adds}
 use Rattle.table.proofs.installing.enter_new.Goals as goal
 
 pub count_of-count-requires : goal.count_of-count-requires
@@ -23,7 +24,7 @@ pub returns-then-places_of-count : goal.returns-then-places_of-count
 returns-then-places_of-count c =
     let a = c.args in
     let p = c.requires in
-    leaves-as c.refused.ensures (install-full a.table.now a.nlri.now a.attribute.now a.index p.table_value p.attribute_value p.index_value p.table_value_2 (omega (arith, c.count_of-count.ensures.0, c.places_of.ensures)))
+    install-full a.table.now a.nlri.now a.attribute.now a.index p.table_value p.attribute_value p.index_value p.table_value_2 (omega (arith, c.count_of-count.ensures.0, c.places_of.ensures))
 
 pub add-requires : goal.add-requires
 add-requires c =
@@ -39,6 +40,6 @@ returns c =
     let p = c.requires in
     let t = a.table.now in
     let n = c.count_of-count in
-    let octets = octets-of t (λ i. (c.slice_known-1.given i).fits) in
+    let octets = octets-of t (λ i. search rules) in
     let added = subst (λ (count : ℕ). c.add.new.table ≡ added_at a.index count (place_of (route a.nlri.now a.attribute.now)) t) n.ensures.0 c.add.ensures in
-    leaves-as c.done.ensures (install-adds t a.nlri.now a.attribute.now c.add.new.table a.index octets p.table_value p.attribute_value p.index_value p.table_value_2 (omega (arith, n.ensures.0, c.places_of.ensures)) added)
+    install-adds t a.nlri.now a.attribute.now c.add.new.table a.index octets p.table_value p.attribute_value p.index_value p.table_value_2 (omega (arith, n.ensures.0, c.places_of.ensures)) added

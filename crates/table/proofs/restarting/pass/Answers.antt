@@ -1,26 +1,20 @@
 -- `table::restarting::pass` meets its contract.
 use native.Mathlib.Omega.{arith}
-use Rattle.table.proofs.RenewCalls.{turn-first, turn-room, turn-here, turn-next, turn_last}
+use Rattle.table.proofs.RenewCalls.{turn-room, turn-here, turn-next, turn_last}
 use Rattle.table.proofs.restarting.pass.Goals as goal
-
-pub loop-index-init : goal.loop-index-init
-loop-index-init c =
-    let a = c.args in
-    let p = c.requires in
-    turn-first a.mark p.2 a.router.now a.table.now p.0 a.count p.1
 
 pub overflow_mul-index : goal.overflow_mul-index
 overflow_mul-index c =
     let a = c.args in
     let p = c.requires in
-    let r = turn-room a.mark p.2 a.router.now a.table.now p.0 a.count p.1 c.loop-index.index c.loop-index-test.true in
+    let r = turn-room a.mark a.router.now a.table.now p.0 a.count p.1 c.loop-index.index c.loop-index-test.true in
     omega arith
 
 pub overflow_add-index : goal.overflow_add-index
 overflow_add-index c =
     let a = c.args in
     let p = c.requires in
-    let r = turn-room a.mark p.2 a.router.now a.table.now p.0 a.count p.1 c.loop-index.index c.loop-index-test.true in
+    let r = turn-room a.mark a.router.now a.table.now p.0 a.count p.1 c.loop-index.index c.loop-index-test.true in
     omega arith
 
 pub settle-to-requires : goal.settle-to-requires
@@ -28,7 +22,7 @@ settle-to-requires c =
     let a = c.args in
     let p = c.requires in
     let l = c.loop-index in
-    turn-here a.mark p.2 a.router.now a.table.now p.0 a.count p.1 l.index l.to l.table l.invariant c.loop-index-test.true
+    turn-here a.mark a.router.now a.table.now p.0 a.count p.1 l.index l.to l.table l.invariant c.loop-index-test.true
 
 pub loop-index-preserved : goal.loop-index-preserved
 loop-index-preserved c =
@@ -36,7 +30,7 @@ loop-index-preserved c =
     let p = c.requires in
     let l = c.loop-index in
     let s = c.settle-to in
-    turn-next a.mark p.2 a.router.now a.table.now p.0 a.count p.1 l.index l.to l.table l.invariant
+    turn-next a.mark a.router.now a.table.now p.0 a.count p.1 l.index l.to l.table l.invariant
     c.loop-index-test.true _ _ s.ensures.value s.ensures.table_after
 
 pub returns : goal.returns
@@ -44,4 +38,4 @@ returns c =
     let a = c.args in
     let p = c.requires in
     let l = c.loop-index in
-    turn_last a.mark p.2 a.router.now a.table.now p.0 a.count p.1 l.index l.to l.table l.invariant c.loop-index-test.false
+    turn_last a.mark a.router.now a.table.now p.0 a.count p.1 l.index l.to l.table l.invariant (omega arith) c.loop-index-test.false

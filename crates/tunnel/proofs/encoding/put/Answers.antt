@@ -3,7 +3,7 @@ use mathlib.Core.Path.{◌≡◌, refl}
 use mathlib.Core.List.{◌∷◌}
 use lib.ListN.{length, length-append}
 use Rattle.octets.specs.Octets.{big_endian}
-use Rattle.octets.proofs.Outputs.{put_then, wrote-put}
+use Rattle.octets.proofs.Outputs.{put_then}
 use Rattle.octets.proofs.NetworkOrder.{length-big_endian}
 use native.Mathlib.Omega.{arith}
 use Rattle.tunnel.specs.Attribute.{encode_attribute}
@@ -24,5 +24,4 @@ returns c =
     let h = c.put_header-next in
     let e = a.flags ∷ (a.tunnel_type ∷ big_endian 3 a.label_field) in
     let l : length e ≡ 5 = omega (arith, length-big_endian 3 a.label_field) in
-    let whole = put_then 0 e a.identifier.now a.output.now (omega (arith, c.requires, length-append (big_endian 3 a.label_field) a.identifier.now)) h.result h.new.output h.ensures _ _ (refl, c.place.ensures) in
-    wrote-put _ a.output.now _ _ _ (omega (arith, whole.0)) whole
+    put_then 0 e a.identifier.now a.output.now (omega (arith, c.requires, length-append (big_endian 3 a.label_field) a.identifier.now)) h.result h.new.output h.ensures _ _ (refl, c.place.ensures)
