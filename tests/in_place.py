@@ -43,20 +43,20 @@ ANSWERS = {"core::result::Result", "core::option::Option", "core::ops::Range"}
 STEPS = {"into_iter", "next", "min", "len", "min_with"}
 
 # The arrays of what the table's calls reach: octets that are written behind each other, the header that a table must have, the four reasons of
-# an explanation, a place in a salvage's list.
+# an explanation, a place in a salvage's list. Each with how many places the compiler has for them, so that another one beside them is seen.
 ARRAYS = {
-    "matches::explaining::explain",
-    "octets::blocks::place_4",
-    "octets::blocks::place_8",
-    "octets::wide::place_three",
-    "places::header::is_header_sound",
-    "places::header::start_of",
-    "places::header::write_header",
-    "places::place::write_place",
-    "routes::ExplainedFromResultExplanationRefusal::from",
-    "routes::Reasons::numbers",
-    "salvage::salvaging::enlist",
-    "tunnel::encoding::put_header",
+    "matches::explaining::explain": 1,
+    "octets::blocks::place_4": 2,
+    "octets::blocks::place_8": 2,
+    "octets::wide::place_three": 2,
+    "places::header::is_header_sound": 3,
+    "places::header::start_of": 1,
+    "places::header::write_header": 5,
+    "places::place::write_place": 2,
+    "routes::ExplainedFromResultExplanationRefusal::from": 3,
+    "routes::Reasons::numbers": 1,
+    "salvage::salvaging::enlist": 2,
+    "tunnel::encoding::put_header": 2,
 }
 
 # What the table's calls reach of the toolchain. The one copy of octets is `copy_from_slice`, in `octets::parts::place`; `copy_within` moves
@@ -191,12 +191,12 @@ def faults_of(functions):
             if it.partition("::")[0] in ours and it not in functions:
                 yield f"{name}: cannot follow `{it}`"
     seen = reached(functions, CALLS)
-    arrays, calls = set(), set()
+    arrays, calls = {}, set()
     for name in sorted(seen):
         for kind, what in kinds_of(functions[name]):
             if kind == "array":
-                arrays.add(name)
-            elif kind == "type" and MOST_NUMBERS < what[1] and not what[0].startswith("core::"):
+                arrays[name] = arrays.get(name, 0) + 1
+            elif kind == "type" and MOST_NUMBERS < what[1]:
                 yield f"{name}: has `{what[0]}`, with {what[1]} numbers"
         for it in called_by(functions[name]):
             if it.partition("::")[0] not in ours:
@@ -205,8 +205,9 @@ def faults_of(functions):
                     yield f"{name}: copies by `{last_name(it)}`"
             elif it not in functions:
                 yield f"{name}: cannot follow `{it}`"
-    yield from (f"{name}: an array" for name in sorted(arrays - ARRAYS))
-    yield from (f"{name}: an array: no longer" for name in sorted(ARRAYS - arrays))
+    yield from (f"{name}: an array" for name in sorted(arrays.keys() - ARRAYS.keys()))
+    yield from (f"{name}: an array: no longer" for name in sorted(ARRAYS.keys() - arrays.keys()))
+    yield from (f"{name}: {arrays[name]} arrays" for name in sorted(arrays.keys() & ARRAYS.keys()) if arrays[name] != ARRAYS[name])
     yield from (f"`{it}`, of the toolchain, is called" for it in sorted(calls - TOOLCHAIN))
     yield from (f"`{it}`, of the toolchain, is called: no longer" for it in sorted(TOOLCHAIN - calls))
     for call, wanted in CALLS.items():
@@ -278,6 +279,9 @@ EDITS = [
     ("places::sound::are_places_sound: an array", with_local("places::sound::are_places_sound", ARRAY)),
     ("places::sound::are_places_sound: has `places::sound::Held`, with 8 numbers",
      with_local("places::sound::are_places_sound", named(EIGHT["name"]), EIGHT)),
+    ("places::header::is_header_sound: 4 arrays", with_local("places::header::is_header_sound", ARRAY)),
+    ("places::sound::are_places_sound: has `core::option::Option`, with 8 numbers",
+     with_local("places::sound::are_places_sound", {"Named": [{"name": "core::option::Option", "lifetimes": []}, [named(EIGHT["name"])]]}, EIGHT)),
     # an array that is named, and is gone
     ("tunnel::encoding::put_header: an array: no longer", lambda functions: functions["tunnel::encoding::put_header"].update(locals=[], types=[])),
     # a comparison that is gone; one that is no longer the one that is used
