@@ -141,7 +141,7 @@ TOOLCHAIN = {
 }
 
 # The words of a body in the compiler's form: steps, places, values, and types among them. `Fn` is a function that is called, `Impl` what is
-# handed to it.
+# handed to it; there is no call by a function pointer or a bound.
 WORDS = set(
     "Add AddrOf Aggregate Array Assign Call Cast Const Copy Deref Div Exit Field Fn If Impl Int Ints Le LendStatic Lit Lt Mul Named NumOf Op1 "
     "Op2 Opd Param Parts Ref Rem Repeat Shr Struct Sub Switch Variant dicts lifetimes local name steps types value values width".split()
@@ -317,8 +317,6 @@ class Function:
         for key, inner in parts(self.form["body"]):
             if key in ("Array", "Named") and isinstance(inner, list):
                 found.update(dict.fromkeys(what_is_in({key: inner}, shapes), 0))
-            elif key == "Call" and "Fn" not in inner[0]:
-                found[Told("unread", "cannot follow a call of what it has")] += 1
             elif key not in WORDS:
                 found[Told("unread", f"cannot read `{key}`")] += 1
         return found
@@ -701,16 +699,16 @@ EDITS = [
     ("table::installing::install", "does not reach changes::find::position",
      taken_instead(SEARCH, "changes::find::position", "changes::find::place_of")),
     ("table::withdrawing::withdraw", "does not reach places::sound::follows", taken_instead(ALL_SOUND, FOLLOWS, "places::sound::comes_after")),
-    # what cannot be followed: a function that is not there, a closure that is not, a call of what a local has
+    # what cannot be followed: a function that is not there, a closure that is not
     ("octets::order::comes_before_by_words", "cannot follow `octets::order::lesser`",
      call("octets::order::comes_before_by_words", "octets::order::lesser")),
     ("octets::order::is_each_zero", "cannot follow `octets::order::fn::is_each_zero::other+FnMut`",
      call("octets::order::is_each_zero", "core::iter::base::Iterator::fold", hands="octets::order::fn::is_each_zero::other+FnMut")),
-    (RISES, "cannot follow a call of what it has", step(RISES, {"Call": [{"Copy": {"local": 1, "steps": []}}, [], RESULT_PLACE]})),
-    # what cannot be read: a type of which nothing is said, one that a caller gives, another word of the form
-    (PLACE_AT, "cannot read the type `places::place::Held`", local(PLACE_AT, named("places::place::Held"))),
+    # a call by a function pointer, and one by a bound; a type that a caller gives, and one of which nothing is said
+    (RISES, "cannot read `CallV`", step(RISES, {"CallV": [{"Copy": RESULT_PLACE}, {"abi": "Rattle", "types": ["Bool"]}, [], RESULT_PLACE]})),
+    (RISES, "cannot read `Method`", step(RISES, {"Call": [{"Method": [{"Given": 0}, 0, {"types": [], "dicts": []}]}, [], RESULT_PLACE]})),
     (ALL_SOUND, "cannot read a type that its caller gives", parameter(ALL_SOUND, {"Param": 0})),
-    (RISES, "cannot read `Other`", step(RISES, {"Assign": [RESULT_PLACE, {"Other": "octets::order::lesser"}]})),
+    (PLACE_AT, "cannot read the type `places::place::Held`", local(PLACE_AT, named("places::place::Held"))),
     # a function of the toolchain, among them a copy by one; one that other functions may call, or hand over; one that is named, and is gone
     (SEARCH, "calls `slice+T::to_vec`, of the toolchain", call(SEARCH, "std_alloc::slice::slice+T::to_vec")),
     (RISES, "calls `slice+T::copy_from_slice`, of the toolchain", call(RISES, COPY)),
