@@ -3,6 +3,7 @@ ghost use Rattle.std.specs.Prelude.{◌≡◌};
 ghost use Rattle.octets.specs.Refusals.{refusal_number};
 ghost use Rattle.runs.specs.Modes.{mode_by, mode_number, is_skipped};
 
+use octets::number::{GROUP, TYPE};
 use octets::refusal::Refusal;
 
 // What a walk does at an unknown route type, and at a Source Active route that is discarded: it skips the NLRI, or stops as at any other refusal.
@@ -34,4 +35,11 @@ impl Mode {
             Mode::Old => false,
         }
     }
+}
+
+// Whether a walk skips an NLRI, for a caller that has the numbers of mvpn.h: of the mode, where every number but 0 is the old one, and of the refusal.
+pub fn is_skipped(mode: u32, number: u32) -> bool
+    ensures { result ≡ is_skipped mode number }
+{
+    mode == Mode::Skip as u32 && (number == TYPE || number == GROUP)
 }
