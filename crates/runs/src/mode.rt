@@ -31,7 +31,11 @@ impl Mode {
         ensures { result ≡ is_skipped (mode_number self) (refusal_number refusal) }
     {
         match self {
-            Mode::Skip => matches!(refusal, Refusal::Type | Refusal::Group),
+            Mode::Skip => match refusal {
+                Refusal::Type => true,
+                Refusal::Group => true,
+                _ => false,
+            },
             Mode::Old => false,
         }
     }
