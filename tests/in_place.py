@@ -19,8 +19,10 @@ import sys
 
 # The order of two NLRIs, and whether they are the same; the search of install, withdraw, next and salvage; the comparison of each place with
 # the one before it, by which a table is sound; that of two route distinguishers, by which a match chooses.
-SEARCHES = ["octets::order::comes_before", "octets::order::is_same", "changes::find::position", "changes::find::search"]
-SALVAGES = ["changes::find::search_from_last"]
+SEARCHES = [
+    "octets::order::comes_before", "octets::order::is_same", "changes::find::position", "changes::find::stands_at", "changes::find::search",
+]
+SALVAGES = ["changes::find::position_from_last", "changes::find::search_from_last"]
 PASSES = ["places::sound::follows"]
 CHOICES = ["matches::scan::is_lower"]
 COMPARISONS = SEARCHES + SALVAGES + PASSES + CHOICES
@@ -44,7 +46,7 @@ CALLS = {
 # The one struct or enum of the comparisons: the place where a search found an NLRI, or where it belongs. It holds two numbers of 64 bits, of
 # which a caller sees one, and no octets.
 FOUND = "core::result::Result<u64, u64>"
-ANSWERS = {"changes::find::search": FOUND, "changes::find::search_from_last": FOUND}
+ANSWERS = {"changes::find::search": FOUND, "changes::find::search_from_last": FOUND, "changes::find::answer_at": FOUND}
 
 # What a comparison may call of the toolchain: the lower of two numbers.
 STEPS = {"usize::min"}
