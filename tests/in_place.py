@@ -19,13 +19,12 @@ import sys
 
 # The order of two NLRIs, and whether they are the same; the search of install, withdraw, next and salvage; the comparison of each place with
 # the one before it, by which a table is sound; that of two route distinguishers, by which a match chooses.
-SEARCHES = [
-    "octets::order::comes_before", "octets::order::is_same", "changes::find::position", "changes::find::stands_at", "changes::find::search",
-]
-SALVAGES = ["changes::find::position_from_last", "changes::find::search_from_last"]
+BY_INDEX = ["octets::order::comes_before", "octets::order::is_same", "changes::find::position", "changes::find::stands_at"]
+SEARCHES = BY_INDEX + ["changes::find::search"]
+SALVAGES = BY_INDEX + ["changes::find::position_from_last", "changes::find::search_from_last"]
 PASSES = ["places::sound::follows"]
 CHOICES = ["matches::scan::is_lower"]
-COMPARISONS = SEARCHES + SALVAGES + PASSES + CHOICES
+COMPARISONS = list(dict.fromkeys(SEARCHES + SALVAGES + PASSES + CHOICES))
 
 # The crates whose calls take a table, and each public call that their roots name, with what it must reach.
 CALLS_ON_TABLES = ["table", "matches", "salvage"]
@@ -37,7 +36,7 @@ CALLS = {
     "table::restarting::sweep": PASSES,
     "table::following::next": SEARCHES + PASSES,
     "table::table_info::info": PASSES,
-    "salvage::salvaging::salvage": SEARCHES + SALVAGES,
+    "salvage::salvaging::salvage": SALVAGES,
     "matches::matching::match_flow": PASSES + CHOICES,
     "matches::explaining::explain": PASSES + CHOICES,
     "matches::shared::match_shared": PASSES + CHOICES,
@@ -62,7 +61,9 @@ ARRAYS = {
     "places::header::start_of: an array": 1,
     "places::header::write_header: an array": 5,
     "places::place::write_place: an array": 2,
-    "routes::ExplainedFromResultExplanationRefusal::from: an array": 2,
+    "routes::Explained::refused: an array": 1,
+    "routes::Explained::refused: an array, in `routes::Explained`": 1,
+    "routes::ExplainedFromResultExplanationRefusal::from: an array": 1,
     "routes::ExplainedFromResultExplanationRefusal::from: an array, in `routes::Explained`": 2,
     "routes::Reasons::numbers: an array": 1,
     "routes::TierPartialOrd::partial_cmp: an array": 1,
