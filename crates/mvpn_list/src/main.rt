@@ -22,6 +22,9 @@ use std::rt::Env;
 // One octet more than a run may have, so that a longer one is seen to be so.
 const SEEN: usize = 4097;
 
+// Room for a listing, which has at most 28,705 octets.
+const ROOM: usize = 65536;
+
 // How many arguments there are, the program's own name among them.
 fn argument_count(rt: &impl Env) -> usize {
     (0..usize::MAX)
@@ -35,9 +38,6 @@ fn asked_mode(rt: &impl Env) -> Mode {
     let size = rt.arg(1, &mut argument).unwrap_or(0);
     arguments::mode_of(argument_count(rt), &argument[..size])
 }
-
-// Room for a listing, which has at most 28,705 octets.
-const ROOM: usize = 65536;
 
 // Writes the listing of a run by one call: the room holds all of it.
 fn print_listing<W: Write>(to: &mut W, mode: Mode, run: &[u8]) -> io::Result<()>
