@@ -24,8 +24,7 @@ pub enum Standing {
     Filling,
 }
 
-// The number of the first fault from left to right of a FEC at the front of octets and of those that it holds, LENGTH, IDENT or DEEP,
-// or DONE.
+// The first fault from left to right of a FEC at the front of octets and of those that it holds: LENGTH, IDENT or DEEP.
 pub fn check(standing: Standing, octets: &[u8]) -> Result<(), Refusal>
     ensures { result_number result ≡ number_of (read_fec standing octets.now) }
 {

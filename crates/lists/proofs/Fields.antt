@@ -7,6 +7,7 @@ use native.Mathlib.Nat.{suc-mul}
 use native.Mathlib.Omega.{arith}
 use borrow.Author.Tests.{leb-true, leb-false, le-leb, lt-leb}
 use lib.ListN.{length, drop, length-drop}
+use lib.Seq.{drop-drop}
 use lib.Dec.{leb}
 use Rattle.octets.specs.Choice.{both}
 use Rattle.octets.specs.Octets.{part, number_in}
@@ -41,6 +42,16 @@ module _ (s : List ℕ) where
     pub front-field-is : (r : List ℕ) → r ≡ part s 2 n → r ≡ front_field s
     unfolding front_field front_number part
     front-field-is r e = e ∙ rw size
+
+-- the field at a cursor of a list, by the list itself
+module _ (list : List ℕ) (at : ℕ) where
+  pub whole-field-inside : whole_field (drop at list) ≡ true → at + (2 + number_in (part list at 2) 0) ≤ length list
+  unfolding whole_field front_number part
+  whole-field-inside h = omega (arith, leb-true (2 + front_number (drop at list)) (length (drop at list)) h, length-drop at list)
+
+  pub after-field-at : (n : ℕ) → n ≡ number_in (part list at 2) 0 → drop (at + (2 + n)) list ≡ after_field (drop at list)
+  unfolding after_field front_number part
+  after-field-at n e = rw e (sym (drop-drop _ at list))
 
 -- a field of an item stands after those before it
 item-field : (i fields : ℕ) (s : List ℕ) → i < fields → item_field i (front_item fields s) ≡ front_field (after_item i s)

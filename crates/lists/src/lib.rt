@@ -4,7 +4,7 @@
 #![tactic(auto)]
 
 ghost use Rattle.std.specs.Prelude.{◌≡◌, true, ◌+◌, ◌^◌, ◌<◌, length, drop};
-ghost use Rattle.lists.specs.LentLists.{item_field, front_item, whole_item, list_count, whole_list, list_items};
+ghost use Rattle.lists.specs.LentLists.{item_field, front_item, after_item, whole_item, list_count, whole_list, list_items};
 
 mod field;
 pub mod item;
@@ -58,7 +58,20 @@ pub fn items_of<const FIELDS: usize>(list: &[u8]) -> Items<'_, FIELDS>
     }
 }
 
-// The octets of field `i`, from 0, of the item at `at`, for a caller that counts where an item stands.
+// Where what follows the item at `at` starts, for a caller that counts where an item stands: the next item, if there is one.
+#[tactic(auto, using(crate::proofs::Walks::walks))]
+pub fn after_item(list: &[u8], at: usize, fields: usize) -> usize
+    requires { whole_item fields (drop at list.now) ≡ true }
+    ensures { drop result list.now ≡ after_item fields (drop at list.now) }
+{
+    let mut next = at;
+    for _ in 0..fields {
+        next += 2 + two(list, next) as usize;
+    }
+    next
+}
+
+// The octets of field `i`, from 0, of the item at `at`, for such a caller.
 pub fn item_field(list: &[u8], at: usize, i: usize) -> &[u8]
     requires { whole_item (i + 1) (drop at list.now) ≡ true }
     ensures { result.now ≡ item_field i (front_item (i + 1) (drop at list.now)) }

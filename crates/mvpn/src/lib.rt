@@ -65,18 +65,18 @@ impl Stepped {
     fn new(step: Result<Option<Step>, Refusal>, cursor: usize) -> Stepped
         ensures { result ≡ step_answer (step_taken_of step cursor) }
     {
-        match step {
-            Ok(Some(step)) => Stepped {
-                number: DONE,
-                cursor: step.next.at,
-                layout: step.layout,
-            },
-            Ok(None) => Stepped::stopped(cursor, DONE),
-            Err(refusal) => {
-                let number = refusal.number();
-                Stepped::stopped(cursor, number)
+        let number = match step {
+            Ok(Some(step)) => {
+                return Stepped {
+                    number: DONE,
+                    cursor: step.next.at,
+                    layout: step.layout,
+                };
             }
-        }
+            Ok(None) => DONE,
+            Err(refusal) => refusal.number(),
+        };
+        Stepped::stopped(cursor, number)
     }
 }
 

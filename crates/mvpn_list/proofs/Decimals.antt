@@ -1,13 +1,15 @@
--- Numbers in decimal: the digits that are printed of a number are the definition's.
+-- Numbers in decimal: the digits that are printed of a number are the definition's, and how many a number has at most.
 use mathlib.Core.Path.{◌≡◌, sym, ◌∙◌, ap}
 use mathlib.Core.List.{List, [], ◌∷◌, ◌++◌}
 use Prim.Native.Nat.{ℕ, zero, suc, ◌+◌, ◌/◌, ◌%◌, ◌^◌, ◌≤◌, ◌<◌}
+use native.Mathlib.Nat.{pow-succ'}
 use native.Mathlib.Omega.{arith}
 use borrow.Author.Tests.{ltb-false, lt-ltb, le-ltb}
+use lib.ListN.{length, length-append}
 use lib.Dec.{ltb}
 use Rattle.std.specs.Fmt.{decimal}
 use Rattle.std.proofs.lemmas.Fmt.{decimal_by_steps}
-use Rattle.octets.proofs.Choice.{tested, pick_true, pick-false}
+use Rattle.octets.proofs.Choice.{tested, pick-case, pick_true, pick-false}
 use Rattle.mvpn_list.specs.Listing.{last_digit, digits_within, decimal_of}
 
 -- more digits than a number has make no difference
@@ -32,3 +34,17 @@ more-digits n ds h e =
 
 pub decimal-is : (n : ℕ) → n < 2 ^ 64 → decimal n ≡ decimal_of n
 decimal-is = decimal_by_steps (λ n ds. ds ≡ decimal_of n) one-digit more-digits
+
+length-digits_within : (k n most : ℕ) → n < 10 ^ suc k → length (digits_within most n) ≤ suc k
+unfolding digits_within
+length-digits_within k n zero h = omega arith
+length-digits_within zero n (suc most) h = pick-case (λ (x : List ℕ). length x ≤ 1) (ltb n 10) _ _ (λ t. omega arith) (λ t. absurd (omega (arith, ltb-false n 10 t)))
+length-digits_within (suc i) n (suc most) h =
+    let q = pow-succ' 10 (suc i) in
+    let later : length (digits_within most (n / 10)) ≤ suc i = length-digits_within i (n / 10) most (omega arith) in
+    pick-case (λ (x : List ℕ). length x ≤ suc (suc i)) (ltb n 10) _ _ (λ t. omega arith) (λ t. simp length-append (omega arith))
+
+-- a number below ten to the power of k has at most k digits
+pub length-decimal_of : (k n : ℕ) → n < 10 ^ suc k → length (decimal_of n) ≤ suc k
+unfolding decimal_of
+length-decimal_of k n h = length-digits_within k n (suc n) h

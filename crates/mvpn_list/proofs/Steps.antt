@@ -7,7 +7,11 @@ use Rattle.octets.specs.Octets.{part}
 use Rattle.nlri.specs.declared.layout.Layout.{Layout}
 use Rattle.runs.specs.declared.stepping.Cursor.{Cursor}
 use Rattle.runs.specs.declared.walking.Walked.{Walked}
-use Rattle.runs.specs.Walking.{StepTaken, read_to, step_from, NlriRead}
+use Rattle.runs.specs.Walking.{StepTaken, read_to, ended_at, refused_at, step_under, step_from, NlriRead}
+use Rattle.octets.proofs.Choice.{pick-case}
+use Rattle.octets.proofs.Outcome.{refuses-by, on-case}
+use Rattle.nlri.proofs.Definitions.ReadNumbers.{refuses-family, refuses-layout}
+use lib.ListN.{drop}
 use Rattle.std.proofs.Common.{Option, Some, None, Result, Ok, Err}
 use Rattle.octets.specs.Numbers.{DONE}
 use Rattle.octets.specs.Refusals.{refusal_number}
@@ -20,7 +24,7 @@ use Rattle.runs.proofs.Nlris.{read-header}
 use Rattle.nlri.proofs.Definitions.Table.{known-octet}
 use Rattle.runs.proofs.Theorems.{step_rule}
 use Rattle.runs.proofs.Steps.{step-moves, reads-step_from}
-use Rattle.runs.proofs.Turns.{read_step, walk_by_from-read, walk_by_from-skipped, walk_by_from-stopped, nlris_by_from-read, nlris_by_from-skipped, nlris_by_from-stopped}
+use Rattle.runs.proofs.Turns.{read_step, stopped-number, walk_by_from-read, walk_by_from-skipped, walk_by_from-stopped, nlris_by_from-read, nlris_by_from-skipped, nlris_by_from-stopped}
 use Rattle.mvpn_list.specs.Listing.{nlri_line, nlri_lines, last_line}
 
 -- a turn by the case of its result
@@ -40,6 +44,22 @@ module _ (r : Result (Option Turn) Refusal) (t : TurnTaken) (e : turn_taken_of r
   pub was-refused : (x : Refusal) → r ≡ Err x → t ≡ Stopped (refusal_number x)
   unfolding turn_taken_of
   was-refused x q = sym e ∙ ap turn_taken_of q
+
+-- the number of a step has at most two digits
+abbrev Small : StepTaken → Type 0
+Small s = s.number < 100
+
+step-number : (afi : ℕ) (run : List ℕ) (at : ℕ) → (step_from afi run at).number < 100
+unfolding step_from step_under read_to ended_at refused_at
+step-number afi run at =
+    on-case Small _ _ _ (λ n e. omega (arith, refuses-by _ n (refuses-family afi) e))
+    (λ bits _. pick-case Small _ _ _ (λ _. omega arith)
+    (λ _. pick-case Small _ _ _ (λ _. omega arith)
+    (λ _. pick-case Small _ _ _ (λ _. omega arith)
+    (λ _. on-case Small _ _ _ (λ n e. omega (arith, refuses-by _ n (refuses-layout bits (drop at run)) e)) (λ _ _. omega arith)))))
+
+pub stopped-small : (mode : ℕ) (run : List ℕ) (at n : ℕ) → turn_from 1 mode run at ≡ Stopped n → n < 100
+stopped-small mode run at n e = omega (arith, stopped-number 1 run at mode n e, step-number 1 run at)
 
 -- the numbers of a line have few digits
 pub read-small : (mode : ℕ) (run : List ℕ) (at : ℕ) (l : Layout) (c : Cursor) → turn_from 1 mode run at ≡ Read l c → (at ≤ 4096) × (l.route_type < 256) × (l.length ≤ 4096)

@@ -3,14 +3,16 @@
 #![tactic(auto)]
 
 mod arguments;
+mod gathered;
 mod input;
 mod listing;
 
-ghost use Rattle.std.specs.Prelude.{OnOk};
+ghost use Rattle.std.specs.Prelude.{◌≤◌, length, OnOk};
 ghost use Rattle.std.specs.Io.KnownBytes.{Appends};
 ghost use Rattle.runs.specs.Modes.{mode_number};
 ghost use Rattle.mvpn_list.specs.Listing.{listing_of};
 
+use gathered::Gathered;
 use listing::Listing;
 use runs::Mode;
 use std::env::FillError;
@@ -19,6 +21,9 @@ use std::rt::Env;
 
 // One octet more than a run may have, so that a longer one is seen to be so.
 const SEEN: usize = 4097;
+
+// Room for a listing, which has at most 28,705 octets.
+const ROOM: usize = 65536;
 
 // How many arguments there are, the program's own name among them.
 fn argument_count(rt: &impl Env) -> usize {
@@ -34,12 +39,16 @@ fn asked_mode(rt: &impl Env) -> Mode {
     arguments::mode_of(argument_count(rt), &argument[..size])
 }
 
-// Writes the listing of a run.
+// Writes the listing of a run by one call: the room holds all of it.
 fn print_listing<W: Write>(to: &mut W, mode: Mode, run: &[u8]) -> io::Result<()>
-    ensures { OnOk result (Appends (W.contents to.old) (W.contents to.new) (listing_of (mode_number mode) run.now)) }
+    ensures written { OnOk result (Appends (W.contents to.old) (W.contents to.new) (listing_of (mode_number mode) run.now)) }
+    ensures fits { length (listing_of (mode_number mode) run.now) ≤ 65536 }
 {
     let listing = Listing { mode, run };
-    write!(to, "{listing}")
+    let mut room = [0; ROOM];
+    let mut gathered = Gathered::new(&mut room);
+    write!(gathered, "{listing}")?;
+    to.write_all(gathered.octets())
 }
 
 // A run that cannot be read to its end has no listing: nothing is printed, and standard error has the reason.

@@ -42,7 +42,9 @@ fn octet(digits: &[u8]) -> Option<u8> {
 }
 
 // The octets whose digits the text begins with, as many as fit.
-pub(crate) fn decode<'a>(text: &[u8], field: &'a mut [u8]) -> &'a [u8] {
+pub(crate) fn decode<'a>(text: &[u8], field: &'a mut [u8]) -> &'a [u8]
+    ensures { length result.now ≤ length field.old }
+{
     let mut pairs = text.chunks_exact(2);
     for size in 0..field.len() {
         let Some(value) = pairs.next().and_then(octet) else {

@@ -1,5 +1,6 @@
 // The class of a customer group (RFC 4607).
 ghost use Rattle.std.specs.Prelude.{◌≡◌, ◌≤◌, length};
+ghost use Rattle.octets.specs.Outcome.{refused};
 ghost use Rattle.nlri.specs.Groups.{multicast, source_specific, is_ssm, class_under, class_of, class_outcome, group_of};
 
 use crate::address::AddressKind;
@@ -22,6 +23,19 @@ pub struct Group {
     pub group_class: u32,
 }
 
+impl Group {
+    // A group that is refused.
+    #[tactic(auto, unfolding(crate::specs::Groups::group_of, octets::specs::Outcome::number_of, octets::specs::Outcome::on_outcome))]
+    pub fn refused(number: u32) -> Group
+        ensures { result ≡ group_of (refused number) }
+    {
+        Group {
+            number,
+            group_class: 0,
+        }
+    }
+}
+
 impl From<Result<GroupClass, Refusal>> for Group {
     ghost from_gives = { λ class group. group ≡ group_of (class_outcome class) };
 
@@ -31,10 +45,7 @@ impl From<Result<GroupClass, Refusal>> for Group {
                 number: DONE,
                 group_class: class as u32,
             },
-            Err(refusal) => Group {
-                number: refusal.number(),
-                group_class: 0,
-            },
+            Err(refusal) => Group::refused(refusal.number()),
         }
     }
 }

@@ -44,7 +44,7 @@ passed_on-outcome (Err x) r h = ap (λ (x : Refusal). refused (refusal_number x)
 pub refused-by : (result : Result ℕ Refusal) (r : Refusal) → IsErrAnd result (λ x. x ≡ r) → written_by result ≡ written_of (refused (refusal_number r))
 unfolding written_of number_of on_outcome
 refused-by (Ok n) r h = absurd h
-refused-by (Err x) r h = ap (λ (y : Refusal). record { number = refusal_number y; size = 0 }) h
+refused-by (Err x) r h = ap (λ (y : Refusal). written_of (refused (refusal_number y))) h
 
 -- an outcome has its result's number
 pub number_of-outcome_in : {A : Type 0} (result : Result A Refusal) → number_of (outcome_in result) ≡ result_number result

@@ -3,6 +3,8 @@
 #![tactic(auto)]
 
 ghost use Rattle.std.specs.Prelude.{◌≡◌};
+ghost use Rattle.octets.specs.Outcome.{refused};
+ghost use Rattle.octets.specs.Outputs.{written_of};
 ghost use Rattle.octets.specs.Refusals.{written_by};
 
 pub mod blocks;
@@ -31,16 +33,24 @@ pub struct Written {
     pub size: usize,
 }
 
+impl Written {
+    // The answer of a refusal: its number, and no octets written.
+    #[tactic(auto, unfolding(crate::specs::Outputs::written_of, crate::specs::Outcome::number_of, crate::specs::Outcome::on_outcome))]
+    pub fn refused(number: u32) -> Written
+        ensures { result ≡ written_of (refused number) }
+    {
+        Written { number, size: 0 }
+    }
+}
+
 impl From<Result<usize, Refusal>> for Written {
     ghost from_gives = { λ done written. written ≡ written_by done };
 
+    #[tactic(auto, unfolding(crate::specs::Outputs::written_of, crate::specs::Outcome::number_of, crate::specs::Outcome::on_outcome))]
     fn from(done: Result<usize, Refusal>) -> Written {
         match done {
             Ok(size) => Written { number: DONE, size },
-            Err(refusal) => Written {
-                number: refusal.number(),
-                size: 0,
-            },
+            Err(refusal) => Written::refused(refusal.number()),
         }
     }
 }

@@ -11,6 +11,7 @@ mod refusals;
 mod vrf;
 mod writing;
 
+pub use commonest::Leader;
 pub use judging::judge;
 pub use planning::plan;
 

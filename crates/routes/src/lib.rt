@@ -2,11 +2,11 @@
 #![tactic(auto)]
 
 ghost use Rattle.std.specs.Prelude.{◌≡◌};
-ghost use Rattle.routes.specs.Answers.{installed_by, restarted_by, empty_match, matched_told};
-ghost use Rattle.routes.specs.Reasons.{reason_numbers, explained_told};
+ghost use Rattle.routes.specs.Answers.{refused_install, done_install, installed_by, refused_restart, restarted_by, empty_match, matched_told};
+ghost use Rattle.routes.specs.Reasons.{refused_explanation, reason_numbers, explained_told};
 ghost use Rattle.routes.specs.Next.{empty_next, following_told};
-ghost use Rattle.routes.specs.Info.{facts_by};
-ghost use Rattle.routes.specs.Salvage.{drop_octet, salvaged_by};
+ghost use Rattle.routes.specs.Info.{empty_info, facts_by};
+ghost use Rattle.routes.specs.Salvage.{drop_octet, empty_salvage, salvaged_by};
 
 use octets::number::DONE;
 use octets::refusal::Refusal;
@@ -26,19 +26,32 @@ pub struct Installed {
     pub outcome: u32,
 }
 
+impl Installed {
+    // An install that is refused.
+    pub fn refused(number: u32) -> Installed
+        ensures { result ≡ refused_install number }
+    {
+        Installed { number, outcome: 0 }
+    }
+
+    // An install that is done, with the number of what it did.
+    pub fn done(outcome: u32) -> Installed
+        ensures { result ≡ done_install outcome }
+    {
+        Installed {
+            number: DONE,
+            outcome,
+        }
+    }
+}
+
 impl From<Result<Installation, Refusal>> for Installed {
     ghost from_gives = { λ done installed. installed ≡ installed_by done };
 
     fn from(done: Result<Installation, Refusal>) -> Installed {
         match done {
-            Ok(installation) => Installed {
-                number: DONE,
-                outcome: installation as u32,
-            },
-            Err(refusal) => Installed {
-                number: refusal.number(),
-                outcome: 0,
-            },
+            Ok(installation) => Installed::done(installation as u32),
+            Err(refusal) => Installed::refused(refusal.number()),
         }
     }
 }
@@ -51,16 +64,22 @@ pub struct Restarted {
     pub gone: u32,
 }
 
+impl Restarted {
+    // A call that is refused.
+    pub fn refused(number: u32) -> Restarted
+        ensures { result ≡ refused_restart number }
+    {
+        Restarted { number, gone: 0 }
+    }
+}
+
 impl From<Result<u32, Refusal>> for Restarted {
     ghost from_gives = { λ done restarted. restarted ≡ restarted_by done };
 
     fn from(done: Result<u32, Refusal>) -> Restarted {
         match done {
             Ok(gone) => Restarted { number: DONE, gone },
-            Err(refusal) => Restarted {
-                number: refusal.number(),
-                gone: 0,
-            },
+            Err(refusal) => Restarted::refused(refusal.number()),
         }
     }
 }
@@ -93,8 +112,8 @@ pub struct Matched {
 }
 
 impl Matched {
-    // A number and empty fields.
-    fn empty(number: u32) -> Matched
+    // A match that is refused.
+    pub fn refused(number: u32) -> Matched
         ensures { result ≡ empty_match number }
     {
         Matched {
@@ -103,6 +122,13 @@ impl Matched {
             nlri_size: 0,
             attribute_size: 0,
         }
+    }
+
+    // A match that finds no route.
+    pub fn none() -> Matched
+        ensures { result ≡ empty_match 0 }
+    {
+        Matched::refused(DONE)
     }
 }
 
@@ -117,8 +143,8 @@ impl From<Result<Option<MatchedRoute>, Refusal>> for Matched {
                 nlri_size: route.nlri_size,
                 attribute_size: route.attribute_size,
             },
-            Ok(None) => Matched::empty(DONE),
-            Err(refusal) => Matched::empty(refusal.number()),
+            Ok(None) => Matched::none(),
+            Err(refusal) => Matched::refused(refusal.number()),
         }
     }
 }
@@ -170,6 +196,18 @@ pub struct Explained {
     pub reasons: [u32; 4],
 }
 
+impl Explained {
+    // A refusal, of which there is no reason to tell.
+    pub fn refused(number: u32) -> Explained
+        ensures { result ≡ refused_explanation number }
+    {
+        Explained {
+            matched: Matched::refused(number),
+            reasons: [0; 4],
+        }
+    }
+}
+
 impl From<Result<Explanation, Refusal>> for Explained {
     ghost from_gives = { λ told explained. explained ≡ explained_told told };
 
@@ -179,10 +217,7 @@ impl From<Result<Explanation, Refusal>> for Explained {
                 matched: Matched::from(Ok(explanation.route)),
                 reasons: explanation.reasons.numbers(),
             },
-            Err(refusal) => Explained {
-                matched: Matched::empty(refusal.number()),
-                reasons: [0; 4],
-            },
+            Err(refusal) => Explained::refused(refusal.number()),
         }
     }
 }
@@ -207,8 +242,8 @@ pub struct Following {
 }
 
 impl Following {
-    // A number and empty fields.
-    fn empty(number: u32) -> Following
+    // A call that is refused.
+    pub fn refused(number: u32) -> Following
         ensures { result ≡ empty_next number }
     {
         Following {
@@ -217,6 +252,13 @@ impl Following {
             attribute_size: 0,
             stale: 0,
         }
+    }
+
+    // No route comes after.
+    pub fn none() -> Following
+        ensures { result ≡ empty_next 0 }
+    {
+        Following::refused(DONE)
     }
 }
 
@@ -231,8 +273,8 @@ impl From<Result<Option<NextRoute>, Refusal>> for Following {
                 attribute_size: route.attribute_size,
                 stale: route.is_stale as u32,
             },
-            Ok(None) => Following::empty(DONE),
-            Err(refusal) => Following::empty(refusal.number()),
+            Ok(None) => Following::none(),
+            Err(refusal) => Following::refused(refusal.number()),
         }
     }
 }
@@ -255,6 +297,20 @@ pub struct TableFacts {
     pub routes: u32,
 }
 
+impl TableFacts {
+    // A call that is refused.
+    pub fn refused(number: u32) -> TableFacts
+        ensures { result ≡ empty_info number }
+    {
+        TableFacts {
+            number,
+            afi: 0,
+            places: 0,
+            routes: 0,
+        }
+    }
+}
+
 impl From<Result<TableContents, Refusal>> for TableFacts {
     ghost from_gives = { λ told facts. facts ≡ facts_by told };
 
@@ -266,12 +322,7 @@ impl From<Result<TableContents, Refusal>> for TableFacts {
                 places: contents.places,
                 routes: contents.routes,
             },
-            Err(refusal) => TableFacts {
-                number: refusal.number(),
-                afi: 0,
-                places: 0,
-                routes: 0,
-            },
+            Err(refusal) => TableFacts::refused(refusal.number()),
         }
     }
 }
@@ -307,6 +358,19 @@ pub struct Salvaged {
     pub dropped: u32,
 }
 
+impl Salvaged {
+    // A call that is refused.
+    pub fn refused(number: u32) -> Salvaged
+        ensures { result ≡ empty_salvage number }
+    {
+        Salvaged {
+            number,
+            kept: 0,
+            dropped: 0,
+        }
+    }
+}
+
 impl From<Result<SalvageCounts, Refusal>> for Salvaged {
     ghost from_gives = { λ done salvaged. salvaged ≡ salvaged_by done };
 
@@ -317,11 +381,7 @@ impl From<Result<SalvageCounts, Refusal>> for Salvaged {
                 kept: counts.kept,
                 dropped: counts.dropped,
             },
-            Err(refusal) => Salvaged {
-                number: refusal.number(),
-                kept: 0,
-                dropped: 0,
-            },
+            Err(refusal) => Salvaged::refused(refusal.number()),
         }
     }
 }

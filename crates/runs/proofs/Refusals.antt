@@ -9,14 +9,14 @@ use Rattle.octets.specs.declared.refusal.Refusal.{Refusal}
 use Rattle.octets.specs.declared.refusal.Refusal.TheVariants.{Short, «Type», Length, Width, Key, Tunnel, Ident, Long, Label, Family, Table, Kind, Room, Absent, Flow, Space, Deep, Range, Group, Conflict}
 
 -- a refusal by its number
-refusal_by : ℕ → Refusal
+pub refusal_by : ℕ → Refusal
 refusal_by n =
     pick (eqb n SHORT) Short (pick (eqb n TYPE) «Type» (pick (eqb n LENGTH) Length (pick (eqb n WIDTH) Width (pick (eqb n KEY) Key
     (pick (eqb n TUNNEL) Tunnel (pick (eqb n IDENT) Ident (pick (eqb n LONG) Long (pick (eqb n LABEL) Label (pick (eqb n FAMILY) Family
     (pick (eqb n TABLE) Table (pick (eqb n KIND) Kind (pick (eqb n ROOM) Room (pick (eqb n ABSENT) Absent (pick (eqb n FLOW) Flow
     (pick (eqb n SPACE) Space (pick (eqb n DEEP) Deep (pick (eqb n RANGE) Range (pick (eqb n GROUP) Group Conflict))))))))))))))))))
 
-refusal_by-number : (r : Refusal) → refusal_by (refusal_number r) ≡ r
+pub refusal_by-number : (r : Refusal) → refusal_by (refusal_number r) ≡ r
 unfolding refusal_by pick
 refusal_by-number Short = refl
 refusal_by-number «Type» = refl

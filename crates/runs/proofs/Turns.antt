@@ -154,6 +154,11 @@ module _ (afi : ℕ) (run : List ℕ) (at : ℕ) where
         ⊎_elim (λ y. let no-turn : ◌≡◌ {A = ℕ} 0 1 = cc in absurd (omega arith))
         (λ y. ⊎_elim (λ z. let no-turn : ◌≡◌ {A = ℕ} 0 1 = cc in absurd (omega arith)) (λ z. cc) (picked _ _ _ _ y.1)) (picked _ _ _ _ e)
 
+    -- a mode turns as its number does
+    pub turns-by : turn_from afi (mode_number (mode_by mode)) run at ≡ turn_from afi mode run at
+    unfolding turn_from
+    turns-by = rw (skipped-by mode (step_from afi run at).number)
+
     -- how the walk goes on by a turn
     module _ (left : ℕ) where
       pub walk_by_from-read : (count skipped : ℕ) (l : Layout) (c : Cursor) → turn_from afi mode run at ≡ Read l c

@@ -6,7 +6,7 @@ mod stepping;
 mod turning;
 mod walking;
 
-pub use mode::Mode;
+pub use mode::{Mode, is_skipped};
 pub use stepping::{Cursor, RUN, Step};
-pub use turning::Turn;
+pub use turning::{Turn, take_turn};
 pub use walking::{Walked, walk};

@@ -3,6 +3,7 @@ ghost use Rattle.std.specs.Prelude.{◌≡◌};
 ghost use Rattle.octets.specs.Refusals.{refusal_number};
 ghost use Rattle.runs.specs.Modes.{mode_by, mode_number, is_skipped};
 
+use octets::number::{GROUP, TYPE};
 use octets::refusal::Refusal;
 
 // What a walk does at an unknown route type, and at a Source Active route that is discarded: it skips the NLRI, or stops as at any other refusal.
@@ -30,8 +31,19 @@ impl Mode {
         ensures { result ≡ is_skipped (mode_number self) (refusal_number refusal) }
     {
         match self {
-            Mode::Skip => matches!(refusal, Refusal::Type | Refusal::Group),
+            Mode::Skip => match refusal {
+                Refusal::Type => true,
+                Refusal::Group => true,
+                _ => false,
+            },
             Mode::Old => false,
         }
     }
+}
+
+// Whether a walk skips an NLRI, for a caller that has the numbers of mvpn.h: of the mode, where every number but 0 is the old one, and of the refusal.
+pub fn is_skipped(mode: u32, number: u32) -> bool
+    ensures { result ≡ is_skipped mode number }
+{
+    mode == Mode::Skip as u32 && (number == TYPE || number == GROUP)
 }

@@ -37,12 +37,16 @@ impl Cursor {
         if run.len() < self.at {
             return Err(Refusal::Short);
         }
-        let layout = nlri::read_front(kind, octets::parts::after(run, self.at))?;
-        let at = past(self.at, layout.length);
-        Ok(Some(Step {
-            layout,
-            next: Cursor { at },
-        }))
+        match nlri::read_front(kind, octets::parts::after(run, self.at)) {
+            Ok(layout) => {
+                let at = past(self.at, layout.length);
+                Ok(Some(Step {
+                    layout,
+                    next: Cursor { at },
+                }))
+            }
+            Err(refusal) => Err(refusal),
+        }
     }
 }
 

@@ -32,3 +32,10 @@ impl Cursor {
         }
     }
 }
+
+// The walk's turn at a cursor, for a caller that has the mode as a number of mvpn.h: every number but 0 is the old mode.
+pub fn take_turn(cursor: Cursor, afi: u16, mode: u32, run: &[u8]) -> Result<Option<Turn>, Refusal>
+    ensures { turn_taken_of result ≡ turn_from afi mode run.now cursor.at }
+{
+    cursor.turn(afi, Mode::from(mode), run)
+}

@@ -1,10 +1,18 @@
 -- These definitions mirror inner functions of src/, and no public contract cites them; laws tie them to document 01's definitions.
-use Rattle.std.specs.Prelude.{ℕ, ◌≡◌, List, [], ◌∷◌}
-use Rattle.octets.specs.Outcome.{number_of}
+use Rattle.std.specs.Prelude.{ℕ, ◌≡◌, Bool, true, false, List, [], ◌∷◌}
+use Rattle.octets.specs.Outcome.{on_outcome, number_of}
 use Rattle.fec_elements.specs.FecTypes.{fec_type_octet}
 use Rattle.tunnel.specs.declared.identifier.Form.{Form}
 use Rattle.tunnel.specs.declared.identifier.Form.TheVariants.{Sizes, Fecs}
-use Rattle.tunnel.specs.Identifier.{IdentifierForm, sizes, fec_types, judged, read_identifier}
+use Rattle.tunnel.specs.Identifier.{IdentifierForm, sizes, fec_types, on_form, form_of, judged, read_identifier}
+
+-- a tunnel type that the table lacks
+unfoldable pub unknown : ℕ → Bool
+unknown t = on_outcome (λ _. true) (λ _. false) (form_of t)
+
+-- a tunnel type whose identifier is a FEC
+unfoldable pub mldp : ℕ → Bool
+mldp t = on_outcome (λ _. false) (on_form (λ _. false) (λ _. true)) (form_of t)
 
 -- a form of the code
 abbrev pub form_told : Form → IdentifierForm

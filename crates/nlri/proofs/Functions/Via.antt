@@ -3,6 +3,8 @@ use Rattle.std.proofs.Common.{◌≡◌, ℕ, Result, Ok, Err, sym, refl, ap, �
 use Rattle.std.specs.Result.{IsErrAnd}
 use Rattle.octets.specs.Numbers.{KEY}
 use Rattle.octets.specs.Outcome.{Outcome, given, refused}
+use Rattle.octets.proofs.Outcome.{and-goes-on, and-stops}
+use Rattle.octets.proofs.Tests.{tests}
 use Rattle.octets.specs.declared.refusal.Refusal.{Refusal}
 use Rattle.octets.specs.Refusals.{refusal_number}
 use Rattle.nlri.specs.declared.address.AddressKind.{AddressKind}
@@ -38,3 +40,6 @@ family_passed_on (Err y) x p = ap (λ (z : Refusal). refused (refusal_number z))
 pub class_passed_on : (r : Result GroupClass Refusal) (x : Refusal) → IsErrAnd r (λ y. y ≡ x) → class_outcome r ≡ refused (refusal_number x)
 class_passed_on (Ok h) x p = absurd p
 class_passed_on (Err y) x p = ap (λ (z : Refusal). refused (refusal_number z)) p
+
+-- the tests of a definition, and its steps by the answers of those of the code
+pub ruleset reads = (tests, and-goes-on, and-stops, known-given, unknown-given, unread-given, key_passed_on, family_passed_on, class_passed_on)

@@ -1,12 +1,16 @@
 -- The class of a group (document 01, "Which route a flow takes").
-use Rattle.std.proofs.Common.{◌≡◌, ℕ, ◌/◌, ◌≤◌, Bool, true, false, eqb, leb, ◌⊎◌, ◌↔◌, List, length, get_or, sym, refl, ap, ◌∙◌, subst, inl, inr, ⊎_elim, arith, eq-eqb, eqb-true, le-leb, leb-true}
+use Rattle.std.proofs.Common.{◌≡◌, ℕ, ◌/◌, ◌≤◌, Bool, true, false, eqb, leb, ◌⊎◌, ◌↔◌, List, length, get_or, Result, Ok, Err, sym, refl, ap, ◌∙◌, subst, inl, inr, ⊎_elim, arith, eq-eqb, eqb-true, le-leb, leb-true}
 use Rattle.octets.specs.Numbers.{FAMILY, FLOW}
 use Rattle.octets.specs.Choice.{pick, both}
 use Rattle.octets.specs.Outcome.{Outcome, given, refused, and_then}
 use Rattle.octets.proofs.Choice.{both_true, opposite, both-true-left, both-true-right}
+use Rattle.octets.specs.declared.refusal.Refusal.{Refusal}
 use Rattle.octets.proofs.Outcome.{and-stops, never, given-same, refused-same, outcome}
+use Rattle.octets.proofs.Refusals.{refusal_number-apart}
 use Rattle.nlri.specs.Family.{family_bits}
-use Rattle.nlri.specs.Groups.{ASM, SSM, multicast, source_specific, Multicast, SourceSpecific, class_under, class_of}
+use Rattle.nlri.specs.Groups.{ASM, SSM, multicast, source_specific, Multicast, SourceSpecific, class_under, class_of, class_number, class_outcome}
+use Rattle.nlri.specs.declared.group.GroupClass.{GroupClass}
+use Rattle.nlri.specs.declared.group.GroupClass.TheVariants.{Asm, Ssm}
 use Rattle.nlri.specs.Rules.NlriRules.{GroupRefusal, bad_family, bad_group, GroupRule}
 use Rattle.nlri.proofs.Definitions.Lengths.{good-family, family-good}
 use Rattle.nlri.proofs.Definitions.Families.{family-refused}
@@ -198,5 +202,24 @@ module _ (afi : ℕ) (g : List ℕ) where
   class : Class afi g
   class = ⊎_elim class-good (λ bad. class-bad bad.0 bad.1) (class-family afi g)
 
+-- answers of the same number and class
+class-of-number : (a b : GroupClass) → class_number a ≡ class_number b → a ≡ b
+class-of-number Asm Asm e = refl
+class-of-number Asm Ssm e = absurd (omega (arith, e))
+class-of-number Ssm Asm e = absurd (omega (arith, e))
+class-of-number Ssm Ssm e = refl
+
+class-apart : (a b : Result GroupClass Refusal) → class_outcome a ≡ class_outcome b → a ≡ b
+class-apart (Ok a) (Ok b) e = ap Ok (class-of-number a b (given-same e))
+class-apart (Ok a) (Err n) e = absurd (never {o = given (class_number a)} refl e)
+class-apart (Err m) (Ok b) e = absurd (never {o = given (class_number b)} refl (sym e))
+class-apart (Err m) (Err n) e = ap Err (refusal_number-apart m n (refused-same {A = ℕ} e))
+
 pub group_rule : GroupRule
-group_rule = record { refuses = λ afi g. (class afi g).refuses; ssm = λ afi g. (class afi g).ssm; asm = λ afi g. (class afi g).asm }
+group_rule =
+    record {
+      refuses = λ afi g. (class afi g).refuses;
+      ssm = λ afi g. (class afi g).ssm;
+      asm = λ afi g. (class afi g).asm;
+      apart = class-apart;
+    }

@@ -1,15 +1,19 @@
 -- The layout of an NLRI is that of the fields encoded.
-use Rattle.std.proofs.Common.{◌≡◌, ℕ, suc, ◌+◌, ◌-◌, ◌*◌, ◌/◌, Bool, true, false, List, [], ◌++◌, length, sym, refl, ap, ◌∙◌, arith}
+use Rattle.std.proofs.Common.{◌≡◌, ℕ, suc, ◌+◌, ◌-◌, ◌*◌, ◌/◌, Bool, true, false, List, [], ◌++◌, length, Result, Ok, Err, sym, refl, ap, ◌∙◌, arith}
 use Rattle.octets.specs.Choice.{pick}
 use Rattle.octets.specs.Outcome.{given, refused}
 use Rattle.octets.specs.Octets.{AllOctets}
-use Rattle.octets.proofs.Outcome.{and-goes-on, and-stops, passed, given-same, refused-alike}
+use Rattle.octets.specs.declared.refusal.Refusal.{Refusal}
+use Rattle.octets.proofs.Outcome.{and-goes-on, and-stops, passed, given-same, refused-same, refused-alike, never}
+use Rattle.octets.proofs.Refusals.{refusal_number-apart}
+use Rattle.nlri.specs.declared.header.Header.{Header}
 use Rattle.nlri.specs.declared.layout.Layout.{Layout}
 use Rattle.nlri.specs.Family.{family_bits}
 use Rattle.nlri.specs.Bodies.{FieldKind, source, group, originator, key, fec, body_of, field_in, has_field}
 use Rattle.nlri.specs.Fields.{Fields, encode_address, encode_field, encode_body, encode_nlri, restricted, WellFormed}
 use Rattle.nlri.specs.Reading.{accepted_at, accepted_single, fields_of, read_nlri}
 use Rattle.nlri.specs.Layouts.{layout_of, layout_at, layout_single, no_layout}
+use Rattle.nlri.specs.Inner.{header_outcome}
 use Rattle.nlri.specs.Rules.NlriRules.{ReadAs, layout_for, LayoutRule}
 use Rattle.nlri.proofs.Definitions.Apart.{results-apart}
 use Rattle.nlri.proofs.Definitions.Lengths.{family-octets}
@@ -82,6 +86,13 @@ layout-single-refuses : (afi : ℕ) (s : List ℕ) (n : ℕ) → read_nlri afi s
 unfolding layout_single read_nlri
 layout-single-refuses afi s n e = refused-alike (family_bits afi) (λ bits. accepted_single bits s) (λ bits laid. fields_of laid s) (λ bits laid. layout_of laid) n e
 
+-- headers of the same number, type and Length
+headers-apart : (a b : Result Header Refusal) → header_outcome a ≡ header_outcome b → a ≡ b
+headers-apart (Ok a) (Ok b) e = let same = given-same {A = ℕ × ℕ} e in λ i. Ok (record { route_type = (same i).0; length = (same i).1 })
+headers-apart (Ok a) (Err n) e = absurd (never {o = given (a.route_type, a.length)} refl e)
+headers-apart (Err m) (Ok b) e = absurd (never {o = given (b.route_type, b.length)} refl (sym e))
+headers-apart (Err m) (Err n) e = ap Err (refusal_number-apart m n (refused-same {A = ℕ × ℕ} e))
+
 pub layout_rule : LayoutRule
 unfolding no_layout
 layout_rule =
@@ -90,4 +101,5 @@ layout_rule =
       refuses = λ afi s n a. (λ e. (read_refusals.exactly afi s n a).0 (layout-single-refused afi s n e), λ h. layout-single-refuses afi s n ((read_refusals.exactly afi s n a).1 h));
       none = refl;
       apart = results-apart;
+      headers_apart = headers-apart;
     }

@@ -13,10 +13,13 @@ use Rattle.nlri.specs.Bodies.{FieldKind, distinguisher, source_as, source, group
 use Rattle.nlri.specs.Fields.{Fields, encode_body, encode_nlri, FecOf, Encodable, Discarded, WellFormed, KeyOf, restricted}
 use Rattle.nlri.specs.Reading.{accepted_at, read_nlri}
 use Rattle.nlri.specs.Layouts.{layout_single, no_layout}
+use Rattle.nlri.specs.Inner.{header_outcome}
 use Rattle.nlri.specs.Writing.{write_nlri}
-use Rattle.nlri.specs.Groups.{Multicast, SourceSpecific, class_of}
+use Rattle.nlri.specs.Groups.{Multicast, SourceSpecific, class_of, class_outcome}
 use Rattle.nlri.specs.declared.address.AddressKind.{AddressKind}
 use Rattle.nlri.specs.declared.fields.Nlri.{Nlri}
+use Rattle.nlri.specs.declared.group.GroupClass.{GroupClass}
+use Rattle.nlri.specs.declared.header.Header.{Header}
 use Rattle.nlri.specs.declared.layout.Layout.{Layout}
 use Rattle.nlri.specs.Answers.{nlri_struct, struct_fields, key_span, fec_span, nlri_answer}
 
@@ -233,6 +236,8 @@ pub record LayoutRule : Type 0 where
   pub none : no_layout ≡ record { route_type = 0; length = 0; source = 0; group = 0; originator = 0; key = 0; fec = 0 }
   -- answers with the same number and values are equal
   pub apart : (a b : Result Layout Refusal) → outcome_in a ≡ outcome_in b → a ≡ b
+  -- and so are headers
+  pub headers_apart : (a b : Result Header Refusal) → header_outcome a ≡ header_outcome b → a ≡ b
 
 -- a source or group of a length that the type and family do not allow, an originator not of 4 or 16 octets
 abbrev pub WidthFault : ℕ → Fields → FieldKind → Type 0
@@ -287,3 +292,5 @@ pub record GroupRule : Type 0 where
   pub refuses : (afi : ℕ) (g : List ℕ) (n : ℕ) → (class_of afi g ≡ refused n) ↔ GroupRefusal afi g n
   pub ssm : (afi : ℕ) (g : List ℕ) → (class_of afi g ≡ given 2) ↔ SourceSpecific afi g
   pub asm : (afi : ℕ) (g : List ℕ) → (class_of afi g ≡ given 1) ↔ (Multicast afi g × (SourceSpecific afi g → ⊥))
+  -- answers with the same number and class are equal
+  pub apart : (a b : Result GroupClass Refusal) → class_outcome a ≡ class_outcome b → a ≡ b

@@ -1,7 +1,9 @@
--- Why a call refuses: the number of each refusal, each as a numeral. Proved in proofs/RefusalsRule.antt.
-use Rattle.std.specs.Prelude.{◌≡◌}
+-- Why a call refuses: the number of each refusal, each as a numeral, and that a judgement's number tells which judgement it is. Proved in
+-- proofs/RefusalsRule.antt.
+use Rattle.std.specs.Prelude.{◌≡◌, Result}
+use Rattle.octets.specs.declared.refusal.Refusal.{Refusal}
 use Rattle.octets.specs.declared.refusal.Refusal.TheVariants.{Short, «Type», Length, Width, Key, Tunnel, Ident, Long, Label, Family, Table, Kind, Room, Absent, Flow, Space, Deep, Range, Group, Conflict}
-use Rattle.octets.specs.Refusals.{refusal_number}
+use Rattle.octets.specs.Refusals.{refusal_number, result_number}
 
 -- the number of each refusal
 pub record RefusalsRule : Type 0 where
@@ -25,3 +27,5 @@ pub record RefusalsRule : Type 0 where
   pub range : refusal_number Range ≡ 18
   pub group : refusal_number Group ≡ 19
   pub conflict : refusal_number Conflict ≡ 20
+  -- judgements of the same number are equal
+  pub apart : (a b : Result (Unit {0}) Refusal) → result_number a ≡ result_number b → a ≡ b

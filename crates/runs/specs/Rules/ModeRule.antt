@@ -1,15 +1,17 @@
 -- What holds of the walk by its mode (document 02, W-206, W-210), said of the run's octets. Proved in proofs/ModeRule.antt.
-use Rattle.std.specs.Prelude.{ℕ, ◌+◌, ◌≤◌, ◌≡◌, true, false, List, [], ◌∷◌, ◌++◌, ◌≢◌, ◌⊎◌, length, get_or}
+use Rattle.std.specs.Prelude.{ℕ, ◌+◌, ◌≤◌, ◌≡◌, true, false, Option, Result, List, [], ◌∷◌, ◌++◌, ◌≢◌, ◌⊎◌, length, get_or}
 use Rattle.octets.specs.Outcome.{given}
 use Rattle.octets.specs.Octets.{AllOctets}
+use Rattle.octets.specs.declared.refusal.Refusal.{Refusal}
 use Rattle.nlri.specs.Family.{family_bits}
 use Rattle.nlri.specs.Fields.{Fields, encode_nlri, Encodable, Discarded, WellFormed}
 use Rattle.nlri.specs.Bodies.{KnownType}
 use Rattle.nlri.specs.Layouts.{no_layout}
 use Rattle.nlri.specs.Rules.NlriRules.{layout_for}
+use Rattle.runs.specs.declared.turning.Turn.{Turn}
 use Rattle.runs.specs.Walking.{walk_of, NlriRead, nlris_of}
 use Rattle.runs.specs.Rules.WalkRules.{EncodedAt, EndAt, StepRefusal, RunEnd}
-use Rattle.runs.specs.Modes.{SkippableNumber, TurnTaken, turn_from, turned_of, walk_by, nlris_by}
+use Rattle.runs.specs.Modes.{SkippableNumber, TurnTaken, turn_from, turn_taken_of, turned_of, walk_by, nlris_by}
 
 -- an NLRI of a run: its fields, and the offset where their encoding begins
 pub record EncodedNlri : Type 0 where
@@ -60,6 +62,8 @@ pub record TurnRule : Type 0 where
       → turned_of (turn_from afi mode run at) ≡ record { number = n; read = false; skipped = false; layout = no_layout; cursor = 0 }
   -- turns with the same number and values are equal
   pub apart : (a b : TurnTaken) → turned_of a ≡ turned_of b → a ≡ b
+  -- and so are results of a turn
+  pub results_apart : (a b : Result (Option Turn) Refusal) → turned_of (turn_taken_of a) ≡ turned_of (turn_taken_of b) → a ≡ b
 
 -- "Unknown route types are stepped over", and Source Active routes that are discarded (W-210)
 pub record ModeRule : Type 0 where

@@ -1,24 +1,25 @@
 -- Laws of judging an identifier: a tunnel type is looked up in the table exactly, and reading accepts exactly the identifiers of its
 -- row's form.
-use Prim.Native.Nat.{ℕ, ◌+◌, ◌≤◌}
+use Prim.Native.Nat.{ℕ, zero, suc, ◌+◌, ◌≤◌, ◌<◌}
 use mathlib.Core.Path.{◌≡◌, refl, sym, ap, subst, ◌∙◌}
 use mathlib.Core.Logic.{⊎_elim}
-use mathlib.Core.Bool.{true}
+use mathlib.Core.Bool.{Bool, true, false}
 use mathlib.Core.List.{List, [], ◌∷◌}
 use native.Mathlib.Omega.{arith}
-use lib.Dec.{eqb}
+use lib.Dec.{ltb, eqb}
 use lib.ListN.{length, get_or}
-use borrow.Author.Tests.{eqb-true, eqb-false, eq-eqb, ne_eqb}
+use borrow.Author.Tests.{ltb-true, ltb-false, eqb-true, eqb-false, eq-eqb, ne_eqb}
 use Rattle.octets.specs.Lists.{Among, first, later}
-use Rattle.octets.specs.Choice.{either}
+use Rattle.octets.specs.Choice.{pick, both, either}
 use Rattle.octets.specs.Numbers.{DONE, TUNNEL, IDENT}
-use Rattle.octets.specs.Outcome.{Outcome, given, refused, and_then, number_of}
+use Rattle.octets.specs.Outcome.{Outcome, given, refused, on_outcome, and_then, number_of}
 use Rattle.octets.specs.Octets.{AllOctets}
-use Rattle.octets.proofs.Choice.{both_true, either_left, tested, pick_true, pick-false, pick-case, opposite, is_false, both-held, picked, either_second}
+use Rattle.octets.proofs.Choice.{both_true, either_left, tested, pick_true, pick-false, pick-case, pick-passed, opposite, is_false, both-held, picked, either_second}
 use Rattle.octets.proofs.Outcome.{never, given-same, refused-same, given-unless, and-case, passed, done-given, Refuses, value, number, refuses-by, refuses-also}
 use Rattle.fec_elements.specs.Fields.{encode_fec}
 use Rattle.fec_elements.specs.Reading.{fec_in, whole_fec}
 use Rattle.tunnel.specs.Identifier.{IdentifierForm, sizes, fec_types, TableRow, row_of, identifier_forms, form_in, form_of, IsIdentifier, of_size, of_fec, OfType, one_of, is_identifier, judged, read_identifier}
+use Rattle.tunnel.specs.Inner.{unknown}
 use Rattle.tunnel.specs.Rules.AttributeRules.{Unknown}
 use Rattle.fec_elements.proofs.Wholes.{whole_fields, whole-encode, type-encode}
 
@@ -105,20 +106,43 @@ unfolding form_in NoRow
 form-in-no-row [] t a = refl
 form-in-no-row (r ∷ rs) t a = pick-false (eqb t r.tunnel_type) (given r.form) (form_in rs t) (ne_eqb t r.tunnel_type a.0) ∙ form-in-no-row rs t a.1
 
-no-row-of : (rows : List TableRow) (t n : ℕ) → form_in rows t ≡ refused n → NoRow rows t
-unfolding form_in NoRow
-no-row-of [] t n e = tt
-no-row-of (r ∷ rs) t n e =
-    ⊎_elim (λ p. absurd (never refl p.1)) (λ p. (eqb-false t r.tunnel_type p.0, no-row-of rs t n p.1))
-    (picked (eqb t r.tunnel_type) (given r.form) (form_in rs t) (refused n) e)
-
 pub form-unknown : (t : ℕ) → Unknown t → form_of t ≡ refused TUNNEL
 unfolding form_of identifier_forms NoRow
 form-unknown t u = form-in-no-row identifier_forms t (omega arith)
 
+-- a test of tunnel types that is the table's on every octet, computed
+unfoldable pub agreeing : (f g : ℕ → Bool) → ℕ → Bool
+agreeing f g zero = true
+agreeing f g (suc n) = both (pick (f n) (g n) (pick (g n) false true)) (agreeing f g n)
+
+agree : (a b : Bool) → pick a b (pick b false true) ≡ true → a ≡ b
+unfolding pick
+agree true b e = sym e
+agree false true e = e
+agree false false e = refl
+
+pub agree-below : (f g : ℕ → Bool) (n : ℕ) → agreeing f g n ≡ true → (t : ℕ) → t < n → f t ≡ g t
+unfolding agreeing
+agree-below f g zero h t l = absurd (omega arith)
+agree-below f g (suc n) h t l =
+    let p = both-held _ _ h in
+    tested (eqb t n)
+    (λ e. rw (eqb-true t n e) (agree (f n) (g n) p.0))
+    (λ e. agree-below f g n p.1 t (omega (arith, eqb-false t n e)))
+
+pub unknown-octet : (r : Bool) (t : ℕ) → t < 256 → r ≡ pick (eqb t 11) false (ltb 7 t) → r ≡ unknown t
+unfolding agreeing both pick unknown form_of form_in identifier_forms on_outcome
+unknown-octet r t h e = e ∙ agree-below (λ k. pick (eqb k 11) false (ltb 7 k)) unknown 256 refl t h
+
 pub unknown-form : (t n : ℕ) → form_of t ≡ refused n → Unknown t
-unfolding form_of identifier_forms NoRow
-unknown-form t n e = let none = no-row-of identifier_forms t n e in record { over = omega arith; not_bier = none.1.1.1.1.1.1.1.1.0 }
+unfolding unknown on_outcome
+unknown-form t n e =
+    tested (ltb t 256)
+    (λ p.
+    let u : unknown t ≡ true = rw e in
+    let q = pick-passed (eqb t 11) (ltb 7 t) (unknown-octet _ t (ltb-true t 256 p) refl ∙ u) in
+    record { over = ltb-true 7 t q.1; not_bier = eqb-false t 11 q.0 })
+    (λ p. let h = ltb-false t 256 p in record { over = omega arith; not_bier = λ x. omega arith })
 
 -- an identifier judged, by what looking its tunnel type up comes to
 pub read_known : (t : ℕ) (i : List ℕ) (form : IdentifierForm) → form_of t ≡ given form → read_identifier t i ≡ judged form i

@@ -1,5 +1,6 @@
 -- `table::installing::enter` meets its contract.
 use borrow.Author.Rules.{rules}
+use native.Mathlib.Omega.{arith}
 use Rattle.octets.proofs.AllOctets.{octets-of}
 use Rattle.routes.specs.Table.{afi_in}
 use Rattle.places.proofs.Indexes.{place-within}
@@ -13,7 +14,7 @@ replace-requires c =
     let p = c.requires in
     let t = a.table.now in
     let stands = c.in-Ok.ensures in
-    record { index_in_bounds = place-within t _ p.table_value (held-within t _ _ p.table_value stands.1); attribute_len_bound = route-fits (afi_in t) a.nlri.now a.attribute.now p.attribute_value }
+    record { index_in_bounds = omega (arith, place-within t _ p.table_value (held-within t _ _ p.table_value stands.1)); attribute_len_bound = route-fits (afi_in t) a.nlri.now a.attribute.now p.attribute_value }
 
 pub returns-in-Ok : goal.returns-in-Ok
 returns-in-Ok c =

@@ -22,22 +22,22 @@ pub returns-then-run-self : goal.returns-then-run-self
 unfolding step_taken_of
 returns-then-run-self c = sym (step_past _ _ _ _ (sym c.in_ok-kind.ensures) c.if-run-gt-RUN.false c.if-run-self.true)
 
-pub returns-in_err-layout : goal.returns-in_err-layout
-returns-in_err-layout c =
+pub returns-in-Err : goal.returns-in-Err
+unfolding step_taken_of
+returns-in-Err c =
     let a = c.args in
-    step-passed _ _ _ c.from_residual-in_err-layout.ensures.1
-    ∙ sym (step-unaccepted a.afi a.run.now a.self.at _ (sym c.in_ok-kind.ensures) c.if-run-gt-RUN.false (omega arith) _ (rw (← c.after.ensures) (sym c.in_err-layout.ensures)))
+    sym (step-unaccepted a.afi a.run.now a.self.at _ (sym c.in_ok-kind.ensures) c.if-run-gt-RUN.false (omega arith) _ (rw (← c.after.ensures) (sym c.in-Err.ensures)))
 
 pub past-at-requires : goal.past-at-requires
 past-at-requires c =
     let a = c.args in
-    let h = (layout-octets _ _ _ (sym c.in_ok-layout.ensures)).1 in
+    let h = (layout-octets _ _ _ (sym c.in-Ok.ensures)).1 in
     let s = ap length c.after.ensures ∙ length-drop a.self.at a.run.now in
     omega (arith, c.if-run-gt-RUN.false)
 
-pub returns : goal.returns
+pub returns-in-Ok : goal.returns-in-Ok
 unfolding step_taken_of
-returns c =
+returns-in-Ok c =
     let a = c.args in
-    ap (read_to c.in_ok-layout.layout) c.past-at.ensures
-    ∙ sym (step-accepted a.afi a.run.now a.self.at _ (sym c.in_ok-kind.ensures) c.if-run-gt-RUN.false (omega arith) _ (rw (← c.after.ensures) (sym c.in_ok-layout.ensures)))
+    ap (read_to c.in-Ok.layout) c.past-at.ensures
+    ∙ sym (step-accepted a.afi a.run.now a.self.at _ (sym c.in_ok-kind.ensures) c.if-run-gt-RUN.false (omega arith) _ (rw (← c.after.ensures) (sym c.in-Ok.ensures)))
