@@ -5,7 +5,7 @@ ghost use Rattle.std.specs.Prelude.{◌≡◌, ◌+◌, ◌*◌, length};
 ghost use Rattle.octets.specs.Outputs.{Wrote, Leaves};
 ghost use Rattle.nlri.specs.Reading.{read_nlri};
 ghost use Rattle.nlri.specs.Writing.{write_nlri};
-ghost use Rattle.runs.specs.Walking.{step_taken_of, step_from, refused_at};
+ghost use Rattle.runs.specs.Walking.{step_from, refused_at};
 ghost use Rattle.runs.specs.Modes.{walk_by};
 ghost use Rattle.pieces.specs.Feeding.{start_of, feed_of, finish_of};
 ghost use Rattle.nlri.specs.Groups.{group_of};
@@ -28,12 +28,11 @@ ghost use Rattle.mvpn.specs.Answers.{step_answer, attribute_given, attribute_ref
 use bier::Egress;
 use nlri::{Group, Layout, Nlri, NlriReading};
 use octets::number::DONE;
-use octets::refusal::Refusal;
 use octets::{Span, Written};
 use pieces::{Fed, Pieces, UnfinishedNlri};
 use plan::{Judged, Planned};
 use routes::{Explained, Following, Installed, Matched, Restarted, Salvaged, TableFacts};
-use runs::{Cursor, Step, Walked};
+use runs::{Cursor, Walked};
 use shared_trees::TreeFacts;
 use tunnel::Attribute;
 use tunnel::fec::Fec;
@@ -47,7 +46,7 @@ pub struct Stepped {
     pub layout: Layout,
 }
 
-#[tactic(auto, unfolding(crate::specs::Answers::step_answer, runs::specs::Walking::step_taken_of, runs::specs::Walking::read_to, runs::specs::Walking::ended_at, runs::specs::Walking::refused_at))]
+#[tactic(auto, unfolding(crate::specs::Answers::step_answer, runs::specs::Walking::refused_at))]
 impl Stepped {
     // No NLRI: a refusal, or the run's end, which the caller tells by DONE with route type 0.
     fn stopped(cursor: usize, number: u32) -> Stepped
@@ -58,25 +57,6 @@ impl Stepped {
             cursor,
             layout: Layout::none(),
         }
-    }
-
-    // A step from a cursor.
-    #[inline(always)]
-    fn new(step: Result<Option<Step>, Refusal>, cursor: usize) -> Stepped
-        ensures { result ≡ step_answer (step_taken_of step cursor) }
-    {
-        let number = match step {
-            Ok(Some(step)) => {
-                return Stepped {
-                    number: DONE,
-                    cursor: step.next.at,
-                    layout: step.layout,
-                };
-            }
-            Ok(None) => DONE,
-            Err(refusal) => refusal.number(),
-        };
-        Stepped::stopped(cursor, number)
     }
 }
 
@@ -166,7 +146,20 @@ pub extern "C" fn mvpn_step(afi: u16, run: &[u8], cursor: usize) -> Stepped
     ensures { result ≡ step_answer (step_from afi run.now cursor) }
 {
     let at = Cursor { at: cursor };
-    Stepped::new(at.step(afi, run), cursor)
+    match at.step(afi, run) {
+        Ok(Some(step)) => {
+            return Stepped {
+                number: DONE,
+                cursor: step.next.at,
+                layout: step.layout,
+            };
+        }
+        Ok(None) => return Stepped::stopped(cursor, DONE),
+        Err(refusal) => {
+            let number = refusal.number();
+            return Stepped::stopped(cursor, number);
+        }
+    }
 }
 
 // Walks a run to its end or its first refusal; in mode 0 unknown route types and Source Active routes that are discarded are skipped.
