@@ -1,6 +1,6 @@
 -- `mvpn::mvpn_step` meets its contract.
 use mathlib.Core.Path.{sym, ◌∙◌, ap}
-use Rattle.std.proofs.Common.{Option, Some, Result, Ok}
+use Rattle.std.proofs.Common.{ℕ, Option, Some, Result, Ok}
 use Rattle.octets.specs.declared.refusal.Refusal.{Refusal}
 use Rattle.runs.specs.declared.stepping.Step.{Step}
 use Rattle.runs.specs.Walking.{step_taken_of, read_to, ended_at, refused_at}
@@ -20,4 +20,5 @@ returns-in-Ok-None c =
 pub returns-in-Err : goal.returns-in-Err
 unfolding step_taken_of
 returns-in-Err c =
-    c.stopped-in-Err.ensures ∙ rw c.number-number.ensures (ap step_answer (ap (λ (r : Result (Option Step) Refusal). step_taken_of r c.args.cursor) (sym c.in-Err.is) ∙ c.step.ensures))
+    c.stopped-in-Err.ensures ∙ ap (λ (n : ℕ). step_answer (refused_at n c.args.cursor)) c.number-number.ensures
+    ∙ ap step_answer (ap (λ (r : Result (Option Step) Refusal). step_taken_of r c.args.cursor) (sym c.in-Err.is) ∙ c.step.ensures)
